@@ -1,0 +1,5 @@
+pub mod Laws
+pub mod Digits
+pub mod Tests
+pub mod NameLaws
+pub mod Rows

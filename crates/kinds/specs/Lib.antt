@@ -1,0 +1,5 @@
+pub mod Kinds
+pub mod Digits
+pub mod Names
+pub mod Blocks
+pub mod Pairs
