@@ -1,0 +1,4 @@
+pub mod Applying
+pub mod Eliminating
+pub mod Solving
+pub mod Theorems

@@ -1,0 +1,4 @@
+pub mod Substitutions
+pub mod Equations
+pub mod SolvedForms
+pub mod Theorems
