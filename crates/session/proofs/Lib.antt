@@ -1,0 +1,4 @@
+pub mod Recording
+pub mod Keeping
+pub mod Returning
+pub mod Agreeing

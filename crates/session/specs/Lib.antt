@@ -1,0 +1,4 @@
+pub mod Accounts
+pub mod Keeping
+pub mod Frames
+pub mod Comparing
