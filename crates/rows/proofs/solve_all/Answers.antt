@@ -8,8 +8,8 @@ loop-i-init g c = (λ θ o met. row_starts g.K.Kind.ops g.met.K.Kind.lawful c.ar
 
 pub loop-i-preserved : goal.loop-i-preserved
 loop-i-preserved g c =
-    let t = c.take-in.ensures in (
-      resolves_more g.K.Kind.ops g.met.K.Kind.lawful c.args.n c.args.ledger.now c.loop-i.row c.take-in.new.row c.loop-i.i c.index-ledger-i.result c.take-in.result
+    let t = c.take_in.ensures in (
+      resolves_more g.K.Kind.ops g.met.K.Kind.lawful c.args.n c.args.ledger.now c.loop-i.row c.take_in.new.row c.loop-i.i c.index-ledger-i.result c.take_in.result
           c.loop-i-test.true c.index-ledger-i.is t.verdict t.grown c.loop-i.invariant.0,
       t.rest ∙ c.loop-i.invariant.1,
     )

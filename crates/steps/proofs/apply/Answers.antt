@@ -16,26 +16,26 @@ loop-v-preserved-then-v-n g c =
     let v = c.in-Some.v in
     let read : c.index-row-v.result ≡ images k c.args.row.now v
     = row_read k c.args.row.now v _ (omega (arith, c.requires, c.if-v-n.true)) c.index-row-v.is in
-    rw (c.join-sum.ensures, read, c.symmetric-difference-rest.ensures, c.singleton.ensures)
+    rw (c.join-sum.ensures, read, c.symmetric_difference-rest.ensures, c.singleton.ensures)
     ((normal_laws g.met.K.Kind.lawful).same_trans (image_in k g.met.K.Kind.lawful c.args.n (images k c.args.row.now) c.loop-v.sum c.loop-v.rest v c.if-v-n.true) c.loop-v.invariant)
 
 pub loop-v-preserved : goal.loop-v-preserved
 loop-v-preserved g c =
     let k = g.K.Kind.ops in
-    rw (c.symmetric-difference-rest.ensures, c.singleton.ensures)
+    rw (c.symmetric_difference-rest.ensures, c.singleton.ensures)
     ((normal_laws g.met.K.Kind.lawful).same_trans (image_beyond k g.met.K.Kind.lawful c.args.n (images k c.args.row.now) c.loop-v.sum c.loop-v.rest c.in-Some.v c.if-v-n.false) c.loop-v.invariant)
 
 pub loop-v-smaller-then-v-n : goal.loop-v-smaller-then-v-n
 loop-v-smaller-then-v-n g c =
-    rw (c.symmetric-difference-rest.ensures, c.singleton.ensures)
+    rw (c.symmetric_difference-rest.ensures, c.singleton.ensures)
     (members_fall most_variables c.loop-v.rest c.in-Some.v c.in-Some.ensures.1 c.in-Some.ensures.0.0)
 
 pub loop-v-smaller : goal.loop-v-smaller
 loop-v-smaller g c =
-    rw (c.symmetric-difference-rest.ensures, c.singleton.ensures)
+    rw (c.symmetric_difference-rest.ensures, c.singleton.ensures)
     (members_fall most_variables c.loop-v.rest c.in-Some.v c.in-Some.ensures.1 c.in-Some.ensures.0.0)
 
 pub returns : goal.returns
 returns g c =
     apply_from g.K.Kind.ops g.met.K.Kind.lawful c.args.n (images g.K.Kind.ops c.args.row.now) c.args.a c.loop-v.sum
-    (rw (c.in-default.ensures, c.of-constant-sum.ensures) at c.loop-v.invariant)
+    (rw (c.in_default.ensures, c.of_constant-sum.ensures) at c.loop-v.invariant)

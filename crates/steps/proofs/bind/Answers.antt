@@ -24,7 +24,7 @@ loop-v-preserved g c =
           let t : has (σ v).vars p ≡ true = ap (λ z. has z.vars p) (sym read) ∙ sym w.if-contains.ensures in
           let y : w.join.result ≡ joined k (σ v) c.args.remainder = w.join.ensures ∙ ap (λ z. joined k z c.args.remainder) read in (
             rw w.row-is (passing_put k _ _ _ v c.loop-v.row w.join.result c.loop-v-test.true long (y ∙ sym (cond-true _ _ _ t)) c.loop-v.invariant.0),
-            rw (w.changed-is, w.symmetric-difference-changed.ensures, w.singleton.ensures) (noted_in v _ c.loop-v.changed c.loop-v.invariant.1 t),
+            rw (w.changed-is, w.symmetric_difference-changed.ensures, w.singleton.ensures) (noted_in v _ c.loop-v.changed c.loop-v.invariant.1 t),
           )
       | else-contains w ↦
           let f : has (σ v).vars p ≡ false = ap (λ z. has z.vars p) (sym read) ∙ sym w.if-contains.ensures in (

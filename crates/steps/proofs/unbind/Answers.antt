@@ -21,28 +21,28 @@ loop-v-preserved-then-v-n g c =
     let low : v < length c.loop-v.row = omega (arith, c.requires.room, c.if-v-n.true) in
     let x : c.index-row-v.result ≡ σ v = rewriting_read k _ _ _ _ c.loop-v.invariant.row v _ low c.index-row-v.is there in
     let own : c.index-row-p.result ≡ σ p = row_read k c.args.row.now p _ (omega (arith, c.requires.variable, c.requires.room)) c.index-row-p.is in
-    let r : c.join-remainder.result ≡ joined k (of_variable k p) (σ p) = c.join-remainder.ensures ∙ ap₂ (joined k) c.of-variable-variable.ensures own in
+    let r : c.join-remainder.result ≡ joined k (of_variable k p) (σ p) = c.join-remainder.ensures ∙ ap₂ (joined k) c.of_variable-variable.ensures own in
     let y : c.join.result ≡ joined k (σ v) (joined k (of_variable k p) (σ p)) = c.join.ensures ∙ ap₂ (joined k) x r in
-    rw (c.symmetric-difference-rest.ensures, c.singleton.ensures)
+    rw (c.symmetric_difference-rest.ensures, c.singleton.ensures)
     (visiting_put k _ _ _ _ c.loop-v.rest c.loop-v.row c.loop-v.invariant v there _ c.if-v-n.true low (y ∙ sym (cond-true _ _ _ (c.loop-v.invariant.members v there))))
 
 pub loop-v-preserved : goal.loop-v-preserved
 loop-v-preserved g c =
-    rw (c.symmetric-difference-rest.ensures, c.singleton.ensures)
+    rw (c.symmetric_difference-rest.ensures, c.singleton.ensures)
     (visiting_beyond _ _ _ _ _ c.loop-v.rest c.loop-v.row c.loop-v.invariant c.in-Some.v c.in-Some.ensures.0.0 c.if-v-n.false)
 
 pub loop-v-smaller-then-v-n : goal.loop-v-smaller-then-v-n
 loop-v-smaller-then-v-n g c =
-    rw (c.symmetric-difference-rest.ensures, c.singleton.ensures)
+    rw (c.symmetric_difference-rest.ensures, c.singleton.ensures)
     (members_fall most_variables c.loop-v.rest c.in-Some.v c.in-Some.ensures.1 c.in-Some.ensures.0.0)
 
 pub loop-v-smaller : goal.loop-v-smaller
 loop-v-smaller g c =
-    rw (c.symmetric-difference-rest.ensures, c.singleton.ensures)
+    rw (c.symmetric_difference-rest.ensures, c.singleton.ensures)
     (members_fall most_variables c.loop-v.rest c.in-Some.v c.in-Some.ensures.1 c.in-Some.ensures.0.0)
 
 pub returns : goal.returns
 returns g c = record {
-  unbound = visiting_end _ _ _ _ _ c.loop-v.row (rw c.in-default.ensures at c.loop-v.invariant);
+  unbound = visiting_end _ _ _ _ _ c.loop-v.row (rw c.in_default.ensures at c.loop-v.invariant);
   rest = c.loop-v.invariant.row.rest;
 }

@@ -35,7 +35,7 @@ returns-then-left-count g c =
     let range : InRange c.args.n = (omega (arith, c.if-n-eq0.false), omega arith) in
     let sized : Sized c.args.table.now = (omega (arith, c.if-count-eq0.false), omega arith) in
     record {
-      result = unsound range (left sized c.if-work-count.false c.in-default.ensures c.if-left-count.true);
+      result = unsound range (left sized c.if-work-count.false c.in_default.ensures c.if-left-count.true);
       work = (λ p. c.clear.ensures, λ no. absurd (no (range, sized, c.if-work-count.false)));
     }
 
@@ -44,7 +44,7 @@ returns-then-right-count g c =
     let range : InRange c.args.n = (omega (arith, c.if-n-eq0.false), omega arith) in
     let sized : Sized c.args.table.now = (omega (arith, c.if-count-eq0.false), omega arith) in
     record {
-      result = unsound range (right sized c.if-work-count.false c.in-default.ensures c.if-left-count.false c.if-right-count.true);
+      result = unsound range (right sized c.if-work-count.false c.in_default.ensures c.if-left-count.false c.if-right-count.true);
       work = (λ p. c.clear.ensures, λ no. absurd (no (range, sized, c.if-work-count.false)));
     }
 
@@ -53,6 +53,6 @@ returns g c =
     let range : InRange c.args.n = (omega (arith, c.if-n-eq0.false), omega arith) in
     let sized : Sized c.args.table.now = (omega (arith, c.if-count-eq0.false), omega arith) in
     record {
-      result = (range, record { size = sized; room = c.if-work-count.false; nodes = c.in-default.ensures; left = c.if-left-count.false; right = c.if-right-count.false }, tt);
+      result = (range, record { size = sized; room = c.if-work-count.false; nodes = c.in_default.ensures; left = c.if-left-count.false; right = c.if-right-count.false }, tt);
       work = (λ p. c.clear.ensures, λ no. absurd (no (range, sized, c.if-work-count.false)));
     }

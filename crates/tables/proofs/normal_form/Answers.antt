@@ -12,8 +12,8 @@ use Rattle.tables.proofs.normal_form.Goals as goal
 pub collect-requires : goal.collect-requires
 collect-requires g c =
     let table = c.args.table.now in
-    let ok = c.in-default.ensures.result in
-    let cleared = c.in-default.ensures.work.0 (ok.0, ok.1.size, ok.1.room) in
+    let ok = c.in_default.ensures.result in
+    let cleared = c.in_default.ensures.work.0 (ok.0, ok.1.size, ok.1.room) in
     record {
       nodes = faultless_more c.args.n most_variables table ok.0.1 ok.1.nodes;
       room = omega (arith, ok.1.room, c.check.auto.work, c.flip.auto.work);
@@ -25,8 +25,8 @@ returns g c =
     let k = g.K.Kind.ops in
     let lawful = g.met.K.Kind.lawful in
     let table = c.args.table.now in
-    let ok = c.in-default.ensures.result in
-    let cleared = c.in-default.ensures.work.0 (ok.0, ok.1.size, ok.1.room) in
+    let ok = c.in_default.ensures.result in
+    let cleared = c.in_default.ensures.work.0 (ok.0, ok.1.size, ok.1.room) in
     let side = one_side k lawful (λ i. normal g.K.Kind.ops (term_at g.K.Kind.ops c.args.table.now i)) (length table) c.check.new.work c.args.side ok.1.left (omega (arith, ok.1.room, c.check.auto.work)) cleared.zeroed in
     record {
       result = (ok.0, ok.1, (normal_laws lawful).same_trans (rw c.flip.ensures at c.collect.ensures.sum) side);

@@ -15,9 +15,9 @@ unmarked : {C : Type 0} (s : Session C) (h' : Head) (r : Result (Unit {0}) Refus
 unmarked s h' (Ok x) e = tt
 unmarked s h' (Err q) e = record { head = e.2; trail = refl; slots = refl; ledger = refl }
 
-pub returns-then-not-is-open : goal.returns-then-not-is-open
-returns-then-not-is-open g c = record {
-  told = answered_closed g.K.Kind.ops c.args.self.now mark c.if-not-is-open.ensures;
+pub returns-then-not-is_open : goal.returns-then-not-is_open
+returns-then-not-is_open g c = record {
+  told = answered_closed g.K.Kind.ops c.args.self.now mark c.if-not-is_open.ensures;
   refused = unchanged_self c.args.self.now;
   slots = refl;
   ledger = refl;
@@ -28,7 +28,7 @@ pub returns : goal.returns
 returns g c =
     let s = c.args.self.now in
     record {
-      told = answered_open g.K.Kind.ops s _ (use_of mark) (reply c.mark.result) c.if-not-is-open.ensures (λ a h.
+      told = answered_open g.K.Kind.ops s _ (use_of mark) (reply c.mark.result) c.if-not-is_open.ensures (λ a h.
           marking g.K.Kind.ops g.met.K.Kind.lawful s.head s.trail s.slots.now s.ledger.now a h c.mark.result c.mark.new.self c.mark.ensures);
       refused = unmarked s c.mark.new.self c.mark.result c.mark.ensures;
       slots = refl;

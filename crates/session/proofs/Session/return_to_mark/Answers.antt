@@ -6,9 +6,9 @@ use Rattle.session.proofs.Keeping.{answered_closed, unchanged_self, same_memory}
 use Rattle.session.proofs.Returning.{returns_nowhere, returns_none, returns_back}
 use Rattle.session.proofs.Session.return_to_mark.Goals as goal
 
-pub returns-then-not-is-open : goal.returns-then-not-is-open
-returns-then-not-is-open g c = record {
-  told = answered_closed g.K.Kind.ops c.args.self.now return_to_mark c.if-not-is-open.ensures;
+pub returns-then-not-is_open : goal.returns-then-not-is_open
+returns-then-not-is_open g c = record {
+  told = answered_closed g.K.Kind.ops c.args.self.now return_to_mark c.if-not-is_open.ensures;
   refused = unchanged_self c.args.self.now;
   slots = refl;
   ledger = refl;
@@ -17,7 +17,7 @@ returns-then-not-is-open g c = record {
 
 pub returns-in-Err : goal.returns-in-Err
 returns-in-Err g c = record {
-  told = returns_nowhere g.K.Kind.ops c.args.self.now c.if-not-is-open.ensures _ _ c.in-Err.ensures;
+  told = returns_nowhere g.K.Kind.ops c.args.self.now c.if-not-is_open.ensures _ _ c.in-Err.ensures;
   refused = record { head = c.in-Err.ensures.2; trail = refl; slots = refl; ledger = refl };
   slots = refl;
   ledger = refl;
@@ -32,7 +32,7 @@ returns-then-mark-self g c =
     let done = c.unwind.ensures in
     let long : length c.args.self.now.head.marks ≡ most_marks = search rules in
     record {
-      told = returns_back g.K.Kind.ops g.met.K.Kind.lawful s c.if-not-is-open.ensures marks.0 long c.unmark.new.self marks.2 c.in-Ok.mark marks.1 c.if-mark-self.true t
+      told = returns_back g.K.Kind.ops g.met.K.Kind.lawful s c.if-not-is_open.ensures marks.0 long c.unmark.new.self marks.2 c.in-Ok.mark marks.1 c.if-mark-self.true t
           done.unwound done.head done.ledger done.memory.lengths;
       refused = tt;
       slots = subst (λ (h : Head). drop h.size t.slots.now ≡ drop h.size s.slots.now) marks.2 done.slots;
@@ -46,7 +46,7 @@ returns-else-mark-self g c =
     let marks = c.in-Ok.ensures in
     let long : length c.args.self.now.head.marks ≡ most_marks = search rules in
     record {
-      told = returns_none g.K.Kind.ops g.met.K.Kind.lawful s c.if-not-is-open.ensures marks.0 long c.unmark.new.self marks.2 c.in-Ok.mark marks.1 c.if-mark-self.false;
+      told = returns_none g.K.Kind.ops g.met.K.Kind.lawful s c.if-not-is_open.ensures marks.0 long c.unmark.new.self marks.2 c.in-Ok.mark marks.1 c.if-mark-self.false;
       refused = tt;
       slots = refl;
       ledger = refl;

@@ -8,15 +8,15 @@ use Rattle.session.specs.Keeping.{memory_of}
 use Rattle.session.proofs.Keeping.{answered_closed, answered_open, showing}
 use Rattle.session.proofs.Session.show.Goals as goal
 
-pub returns-then-not-is-open : goal.returns-then-not-is-open
-returns-then-not-is-open g c = record {
-  told = answered_closed g.K.Kind.ops c.args.self.now (show c.args.variable) c.if-not-is-open.ensures;
+pub returns-then-not-is_open : goal.returns-then-not-is_open
+returns-then-not-is_open g c = record {
+  told = answered_closed g.K.Kind.ops c.args.self.now (show c.args.variable) c.if-not-is_open.ensures;
   «record» = refl;
 }
 
 pub returns-then-variable-self : goal.returns-then-variable-self
 returns-then-variable-self g c = record {
-  told = answered_open g.K.Kind.ops c.args.self.now c.args.self.now (use_of (show c.args.variable)) (Refused NothingToShow) c.if-not-is-open.ensures
+  told = answered_open g.K.Kind.ops c.args.self.now c.args.self.now (use_of (show c.args.variable)) (Refused NothingToShow) c.if-not-is_open.ensures
       (λ a h. (a, no_variable (omega (arith, h.size, c.if-variable-self.true)), h));
   «record» = refl;
 }
@@ -25,7 +25,7 @@ pub returns : goal.returns
 returns g c =
     let k = g.K.Kind.ops in
     let s = c.args.self.now in
-    let ready = c.if-not-is-open.ensures in
+    let ready = c.if-not-is_open.ensures in
     let read : c.index-slots-variable.result ≡ images k s.slots.now c.args.variable
     = get_or_read s.slots.now c.args.variable c.index-slots-variable.result (omega (arith, ready.head.room, c.if-variable-self.false)) c.index-slots-variable.is _ in
     record {

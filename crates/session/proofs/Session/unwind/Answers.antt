@@ -17,7 +17,7 @@ pub returns : goal.returns
 returns g c =
     let inv = c.loop-binding.invariant in
     record {
-      unwound = unwinding_end g.K.Kind.ops g.met.K.Kind.lawful c.args.self.now c.loop-binding.self c.args.mark _ inv c.in-default.ensures;
+      unwound = unwinding_end g.K.Kind.ops g.met.K.Kind.lawful c.args.self.now c.loop-binding.self c.args.mark _ inv c.in_default.ensures;
       head = inv.head;
       slots = inv.slots;
       ledger = inv.ledger;

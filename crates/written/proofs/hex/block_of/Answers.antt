@@ -11,7 +11,7 @@ loop-i-preserved c =
       length-set c.loop-i.bytes c.loop-i.i _ ∙ whole,
       below_more _ _
           (λ k h. let other : k ≢ c.loop-i.i = omega arith in get_or-set_other c.loop-i.bytes c.loop-i.i k _ 0 other ∙ c.loop-i.invariant.1 k h)
-          (get_or-set_same c.loop-i.bytes c.loop-i.i _ 0 within ∙ ap₂ (λ high low. 16 * high + low) c.value-at.ensures.value c.value-at-in-loop-i.ensures.value),
+          (get_or-set_same c.loop-i.bytes c.loop-i.i _ 0 within ∙ ap₂ (λ high low. 16 * high + low) c.value_at.ensures.value c.value_at-in-loop-i.ensures.value),
     )
 
 pub returns : goal.returns
