@@ -1,5 +1,7 @@
 // Compares pairs of messages that are given as term tables, and prints what it does: each table's size, the normal
 // forms of its two sides and whether they are equal, or why the table is refused.
+#![tactic(auto)]
+
 use kinds::Kind;
 use kinds::names::Names;
 use messages::Message;

@@ -3,7 +3,8 @@ pub mod Digits
 pub mod Names
 pub mod Blocks
 pub mod Pairs
-pub mod BlockLaws
 pub mod Rows
 pub mod Tests
 pub mod NameLaws
+pub mod BlockLaws
+pub mod PairLaws

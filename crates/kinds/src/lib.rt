@@ -1,6 +1,8 @@
 // Kinds of constant: what keys, nonces and masks are made of, as far as joining them by exclusive or goes.
 // A kind has a zero, a join and a sameness, and owes the laws of exclusive or up to that sameness. Everything above
 // is written for any kind and may use the laws alone.
+#![tactic(auto)]
+
 ghost use Rattle.std.specs.Prelude.{◌≡◌};
 ghost use Rattle.kinds.specs.Kinds.{Operations, Lawful};
 

@@ -1,7 +1,7 @@
 // The pair of any two kinds: a constant is one of each, side by side.
 ghost use Rattle.std.specs.Prelude.{◌≡◌};
 ghost use Rattle.kinds.specs.Pairs.{pairs};
-ghost use Rattle.std.proofs.Common.{rules};
+ghost use Rattle.kinds.specs.PairLaws.{pairs_lawful};
 
 use crate::Kind;
 
@@ -14,7 +14,7 @@ pub struct Pair<A, B> {
 impl<A: Kind, B: Kind> Kind for Pair<A, B> {
     ghost ops = { pairs A.Kind.ops B.Kind.ops };
 
-    ghost lawful = { Prim.search rules };
+    ghost lawful = { pairs_lawful A.Kind.ops B.Kind.ops A.Kind.lawful B.Kind.lawful };
 
     fn zero() -> Pair<A, B> {
         Pair {

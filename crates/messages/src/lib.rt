@@ -1,4 +1,6 @@
 // Messages over names as text, for the programs that print samples. Reading and writing proper is not this crate's task.
+#![tactic(auto)]
+
 use kinds::names::Names;
 use std::fmt;
 use terms::normal::Normal;

@@ -1,6 +1,8 @@
 // The closed list of refusals. A call that cannot do what it is asked gives one of these; its number and its place
 // say why and where, and both reach the top unchanged. What each call refuses, and in which order, stands with the
 // call.
+#![tactic(auto)]
+
 ghost use Rattle.std.specs.Prelude.{◌≡◌};
 ghost use Rattle.refusals.specs.Refusals.{number_of, place_of};
 

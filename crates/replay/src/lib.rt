@@ -1,5 +1,7 @@
 // Replaying a recorded review: a list of requests, performed on a session that is opened for it. Its contract is the
 // whole promise about runs of calls.
+#![tactic(auto)]
+
 ghost use Rattle.std.specs.Prelude.{◌≡◌, ℕ, ◌<◌, length, drop, Ok, Err, slice_index_or, slice_set};
 ghost use Rattle.replay.specs.Promise.{call_of, asks, answers, events, WorkedOne, WorkedAll, Promise, new_usable};
 ghost use Rattle.session.specs.Accounts.{Unopened};

@@ -1,5 +1,7 @@
 // Whole rows of images: a ledger solved from the start, which is the plain way to take equations out, and two rows
 // compared. Both ask that the rows are long enough, and say so.
+#![tactic(auto)]
+
 ghost use Rattle.std.specs.Prelude.{◌≡◌, ◌≤◌, length, drop};
 ghost use Rattle.solving.specs.Substitutions.{SameSubstitution};
 ghost use Rattle.steps.specs.Rows.{images, Resolves};

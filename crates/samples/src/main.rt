@@ -1,5 +1,7 @@
 // The worked samples of sessions over names, with two variables X0 and X1, each action printed with its answer; and the
 // sizes that a session can have.
+#![tactic(auto)]
+
 use kinds::Kind;
 use kinds::names::Names;
 use messages::Message;

@@ -1,6 +1,8 @@
 // The session: equations are posted, queried and withdrawn, and the images of the variables are kept solved, over memory
 // that its caller lends. What each call means is said by a plain account of standing equations and marks; what ties the
 // memory to that account is `Keeps`. No call asks anything of its caller.
+#![tactic(auto)]
+
 ghost use Rattle.std.specs.Prelude.{◌≡◌, ◌<◌, length, drop, Ok, Err, slice_set};
 ghost use Rattle.session.specs.Accounts.{open_with, use_of, post, query, mark, return_to_mark, show};
 ghost use Rattle.session.specs.Frames.{SameMemory, Unchanged, OnRefusal, OnlyNext, PastInput};

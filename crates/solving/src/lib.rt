@@ -1,5 +1,7 @@
 // Solving equations of exclusive or: substitutions, and the solved form of a list of equations, which is unique. This is
 // the theory on which the solver stands; its one function has the theorems as its contract. Nothing here knows sessions.
+#![tactic(auto)]
+
 ghost use Rattle.solving.specs.Theorems.{EmptySolved, Follows, Clashes, Binds, OneOfThree, SolvedOrNone, Canonical, Respects, Recorded};
 
 use kinds::Kind;

@@ -2,6 +2,8 @@
 // how one more normal form that is to be zero changes it, with what it takes to change it back. Entries from `n` upward
 // are never read or changed; variables from `n` upward count for nothing. These are the steps below a session: each says
 // what it asks of the sizes.
+#![tactic(auto)]
+
 ghost use Rattle.std.specs.Prelude.{◌≡◌, ℕ, ◌<◌, ◌≤◌, List, length, drop};
 ghost use Rattle.steps.specs.Rows.{images, EqualImages, AllFree, SolvedRow, Says, Remains, judged_as, taken_as, Grown};
 ghost use Rattle.solving.specs.SolvedForms.{binding};

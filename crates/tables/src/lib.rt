@@ -1,5 +1,7 @@
 // Term tables with sides: their checks, the normal form of a side or of the join of two, and whether two sides are
 // equivalent. Whatever the input, a call says what it gives and what the working bytes then hold.
+#![tactic(auto)]
+
 ghost use Rattle.std.specs.Prelude.{◌≡◌, ℕ, ◌<◌, ◌≤◌, length, Some, None, Ok, Err, slice_index};
 ghost use Rattle.refusals.specs.declared.Refusal.{Refusal as Fault};
 ghost use Rattle.tables.specs.Calls.{Outcome, Cleared, PastMemory, Worked, input, flipped, picked_sum, leaf_of};

@@ -1,5 +1,7 @@
 // Times the comparison of two nodes of a table of 4,096 nodes, each the join of the two before it, and prints the mean
 // on standard error. A program for figures, and no test: it writes nothing on standard output.
+#![tactic(auto)]
+
 use kinds::names::Names;
 use std::io;
 use std::time::Instant;

@@ -2,6 +2,8 @@
 // followed by small letters and digits, 1 to 8 bytes each; a block is `#` and exactly 32 digits 0-9 a-f; the signs
 // `^`, `=`, `(`, `)` and `0` are one byte each. A token runs as far as its bytes allow, and spaces may stand between
 // tokens. Which tokens make an equation is the grammar's matter.
+#![tactic(auto)]
+
 ghost use Rattle.std.specs.Prelude.{◌≡◌, ◌≤◌, length};
 ghost use Rattle.tokens.specs.Classes.{space};
 ghost use Rattle.tokens.specs.Tokens.{Run, Next, erased};

@@ -1,5 +1,7 @@
 // Kinds that serve only to try the laws: one with a single constant, so that nobody assumes a second, and one whose
 // sameness is coarser than equality. The tests compare messages over these and over the real kinds.
+#![tactic(auto)]
+
 ghost use Rattle.std.specs.Prelude.{◌≡◌, ◌%◌, bit_xor};
 ghost use Rattle.std.proofs.Common.{sym, ap, ap₂, ◌∙◌, rules, eqb→eq};
 ghost use Rattle.trials.specs.Kinds.{single, low_bytes};

@@ -1,6 +1,8 @@
 // Words in the order of their first reading: what the variables and names of a text are numbered by.
 // A dictionary keeps a bounded number of words of at most eight bytes, and nothing is allocated. Which words may be
 // entered, and when, is not known here.
+#![tactic(auto)]
+
 ghost use Rattle.std.specs.Prelude.{◌≡◌, ◌≤◌, []};
 ghost use Rattle.words.specs.Limits.{variable_words, name_words};
 ghost use Rattle.words.specs.Words.{known, counts_of, cut_back};

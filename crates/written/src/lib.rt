@@ -2,6 +2,8 @@
 // A constant is written as literals: names, which stand here by their numbers, and at most one block of hexadecimal
 // digits. A kind says which sorts of literal it takes and what each stands for, and spells its constants so that they
 // read back as the same. Words, separators and lines are not known here.
+#![tactic(auto)]
+
 ghost use Rattle.std.specs.Prelude.{◌≡◌, ℕ, ◌+◌, ◌<◌, ◌≤◌, true};
 ghost use Rattle.kinds.specs.Kinds.{SameConstant};
 ghost use Rattle.kinds.specs.Names.{most_names, has_name};
