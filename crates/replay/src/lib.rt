@@ -81,7 +81,7 @@ fn shown<K: Kind>(r: Result<(), Refusal>, image: Normal<K>) -> Answer<K>
 
 // Asks one thing of a session.
 fn perform<K: Kind>(session: &mut Session<K>, ask: &Ask<K>, work: &mut [u8]) -> Answer<K>
-    ensures told { Answered ops session.old (call_of (length work.old) ask.now) result session.new }
+    ensures told { Answered K.ops session.old (call_of (length work.old) ask.now) result session.new }
     ensures work { ((Ready session.old → WorkedOne ask.now work.old work.new)) × (((Ready session.old → ⊥) → work.new ≡ work.old)) }
     ensures slots { drop session.old.head.size (slots_of session.new) ≡ drop session.old.head.size (slots_of session.old) }
     ensures ledger { drop session.old.head.usable (ledger_of session.new) ≡ drop session.old.head.usable (ledger_of session.old) }
@@ -136,7 +136,7 @@ pub fn replay<K: Kind>(
     requests: &mut [Request<K>],
     work: &mut [u8],
 ) -> Result<(), Refusal>
-    ensures promise { elim result [ Ok x ↦ Promise ops n (events (length work.old) (asks requests.new) (answers requests.new)) session.new | Err q ↦ Unopened (memory_of session.old) n q ] }
+    ensures promise { elim result [ Ok x ↦ Promise K.ops n (events (length work.old) (asks requests.new) (answers requests.new)) session.new | Err q ↦ Unopened (memory_of session.old) n q ] }
     ensures asks { asks requests.new ≡ asks requests.old }
     ensures work { elim result [ Ok x ↦ WorkedAll (asks requests.old) work.old work.new | Err q ↦ work.new ≡ work.old ] }
     ensures refused { (OnRefusal result (Unchanged session.old session.new)) × (OnRefusal result (requests.new ≡ requests.old)) }

@@ -15,7 +15,7 @@ use terms::normal::Normal;
 // Whether two rows give the first `n` variables the same images. Asks that both have them.
 pub fn same_images<K: Kind>(row: &[Normal<K>], other: &[Normal<K>], n: usize) -> bool
     requires { (n ≤ length row.now) × (n ≤ length other.now) }
-    ensures { Decides result (SameSubstitution ops n (images ops row.now) (images ops other.now)) }
+    ensures { Decides result (SameSubstitution K.ops n (images K.ops row.now) (images K.ops other.now)) }
 {
     for i in 0..n {
         if !row[i].same(other[i]) {
@@ -31,7 +31,7 @@ pub fn same_images<K: Kind>(row: &[Normal<K>], other: &[Normal<K>], n: usize) ->
 pub fn solve_all<K: Kind>(row: &mut [Normal<K>], n: usize, ledger: &[Normal<K>])
     requires size { n ≤ most_variables }
     requires room { n ≤ length row.old }
-    ensures solved { Resolves ops n ledger.now ledger.now row.new }
+    ensures solved { Resolves K.ops n ledger.now ledger.now row.new }
     ensures rest { drop n row.new ≡ drop n row.old }
 {
     restart(row, n);

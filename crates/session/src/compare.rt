@@ -19,8 +19,8 @@ pub enum Comparison {
 
 // Compares two sessions and changes nothing. A closed one is refused.
 pub fn compare<K: Kind>(first: &Session<K>, second: &Session<K>) -> Result<Comparison, Refusal>
-    ensures result { Compared ops first.now second.now result }
-    ensures solutions { Agreed ops first.now second.now result }
+    ensures result { Compared K.ops first.now second.now result }
+    ensures solutions { Agreed K.ops first.now second.now result }
 {
     if !first.is_open() {
         return Err(Refusal::Closed);

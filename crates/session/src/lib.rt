@@ -62,9 +62,9 @@ impl<'m, K: Kind> Session<'m, K> {
 
     // Opens the session, or starts it anew, with `n` variables, each its own image.
     pub fn open(&mut self, n: usize) -> Result<(), Refusal>
-        ensures told { Answered ops self.old (open_with n) (reply result) self.new }
-        ensures opens { Opens ops self.old n result self.new }
-        ensures images { elim result [ Ok x ↦ AllFree ops n (slots_of self.new) | Err q ↦ Unit {0} ] }
+        ensures told { Answered K.ops self.old (open_with n) (reply result) self.new }
+        ensures opens { Opens K.ops self.old n result self.new }
+        ensures images { elim result [ Ok x ↦ AllFree K.ops n (slots_of self.new) | Err q ↦ Unit {0} ] }
         ensures refused { OnRefusal result (Unchanged self.old self.new) }
         ensures slots { drop n (slots_of self.new) ≡ drop n (slots_of self.old) }
         ensures ledger { ledger_of self.new ≡ ledger_of self.old }
@@ -85,7 +85,7 @@ impl<'m, K: Kind> Session<'m, K> {
 
     // Marks the standing equations, to return to them.
     pub fn mark(&mut self) -> Result<(), Refusal>
-        ensures told { Answered ops self.old (use_of mark) (reply result) self.new }
+        ensures told { Answered K.ops self.old (use_of mark) (reply result) self.new }
         ensures refused { OnRefusal result (Unchanged self.old self.new) }
         ensures slots { slots_of self.new ≡ slots_of self.old }
         ensures ledger { ledger_of self.new ≡ ledger_of self.old }
@@ -99,8 +99,8 @@ impl<'m, K: Kind> Session<'m, K> {
 
     // Puts the image of a variable into the record.
     pub fn show(&self, variable: usize, record: &mut Normal<K>) -> Result<(), Refusal>
-        ensures told { Answered ops self.now (use_of (show variable)) (shown_reply result «record».new) self.now }
-        ensures record { elim result [ Ok x ↦ «record».new ≡ images ops (slots_of self.now) variable | Err q ↦ «record».new ≡ «record».old ] }
+        ensures told { Answered K.ops self.now (use_of (show variable)) (shown_reply result «record».new) self.now }
+        ensures record { elim result [ Ok x ↦ «record».new ≡ images K.ops (slots_of self.now) variable | Err q ↦ «record».new ≡ «record».old ] }
     {
         if !self.is_open() {
             return Err(Refusal::Closed);
@@ -117,7 +117,7 @@ impl<'m, K: Kind> Session<'m, K> {
     // Which of the solutions make a normal form zero. Asks that the session is open.
     fn query_form(&self, form: Normal<K>) -> Verdict
         requires { Ready self.now }
-        ensures { Judges ops self.now form result }
+        ensures { Judges K.ops self.now form result }
     {
         match judge(self.slots, self.head.size, form) {
             Judgement::Forced => Verdict::Forced,
@@ -134,7 +134,7 @@ impl<'m, K: Kind> Session<'m, K> {
         right: usize,
         work: &mut [u8],
     ) -> Result<Verdict, Refusal>
-        ensures told { Answered ops self.now (use_of (query (input table.now left right (length work.old)))) (told_reply result) self.now }
+        ensures told { Answered K.ops self.now (use_of (query (input table.now left right (length work.old)))) (told_reply result) self.now }
         ensures work { Worked (PastInput self.now (input table.now left right (length work.old))) (length table.now) work.old work.new }
     {
         if !self.is_open() {
@@ -150,7 +150,7 @@ impl<'m, K: Kind> Session<'m, K> {
     // session is open.
     fn post_form(&mut self, form: Normal<K>) -> Result<Receipt, Refusal>
         requires { Ready self.old }
-        ensures told { Posts ops self.old form result self.new }
+        ensures told { Posts K.ops self.old form result self.new }
         ensures refused { OnRefusal result (Unchanged self.old self.new) }
         ensures slots { drop self.old.head.size (slots_of self.new) ≡ drop self.old.head.size (slots_of self.old) }
         ensures ledger { OnlyNext self.old self.new }
@@ -179,7 +179,7 @@ impl<'m, K: Kind> Session<'m, K> {
         right: usize,
         work: &mut [u8],
     ) -> Result<Receipt, Refusal>
-        ensures told { Answered ops self.old (use_of (post (input table.now left right (length work.old)))) (posted_reply result) self.new }
+        ensures told { Answered K.ops self.old (use_of (post (input table.now left right (length work.old)))) (posted_reply result) self.new }
         ensures work { Worked (PastInput self.old (input table.now left right (length work.old))) (length table.now) work.old work.new }
         ensures refused { OnRefusal result (Unchanged self.old self.new) }
         ensures slots { drop self.old.head.size (slots_of self.new) ≡ drop self.old.head.size (slots_of self.old) }
@@ -198,7 +198,7 @@ impl<'m, K: Kind> Session<'m, K> {
     // Takes the bindings back that ledger entries from `mark` on made, the latest first. Asks that the session is open.
     fn unwind(&mut self, mark: usize)
         requires { Ready self.old }
-        ensures unwound { Unwound ops self.old mark self.new }
+        ensures unwound { Unwound K.ops self.old mark self.new }
         ensures head { self.new.head ≡ self.old.head }
         ensures slots { drop self.old.head.size (slots_of self.new) ≡ drop self.old.head.size (slots_of self.old) }
         ensures ledger { ledger_of self.new ≡ ledger_of self.old }
@@ -214,7 +214,7 @@ impl<'m, K: Kind> Session<'m, K> {
 
     // Returns to the latest mark, which goes: the equations posted since are withdrawn.
     pub fn return_to_mark(&mut self) -> Result<(), Refusal>
-        ensures told { Answered ops self.old (use_of return_to_mark) (reply result) self.new }
+        ensures told { Answered K.ops self.old (use_of return_to_mark) (reply result) self.new }
         ensures refused { OnRefusal result (Unchanged self.old self.new) }
         ensures slots { drop self.old.head.size (slots_of self.new) ≡ drop self.old.head.size (slots_of self.old) }
         ensures ledger { ledger_of self.new ≡ ledger_of self.old }

@@ -8,13 +8,13 @@ use kinds::Kind;
 
 // The theorems, for any kind. It does nothing: to call it is to have them.
 pub fn theory<K: Kind>()
-    ensures empty { EmptySolved ops }
-    ensures follows { Follows ops }
-    ensures clashes { Clashes ops }
-    ensures binds { Binds ops }
-    ensures one_of_three { OneOfThree ops }
-    ensures solved_or_none { SolvedOrNone ops }
-    ensures canonical { Canonical ops }
-    ensures respects { Respects ops }
-    ensures recorded { Recorded ops }
+    ensures empty { EmptySolved K.ops }
+    ensures follows { Follows K.ops }
+    ensures clashes { Clashes K.ops }
+    ensures binds { Binds K.ops }
+    ensures one_of_three { OneOfThree K.ops }
+    ensures solved_or_none { SolvedOrNone K.ops }
+    ensures canonical { Canonical K.ops }
+    ensures respects { Respects K.ops }
+    ensures recorded { Recorded K.ops }
 {}

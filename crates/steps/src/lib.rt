@@ -51,7 +51,7 @@ pub struct Binding {
 pub fn restart<K: Kind>(row: &mut [Normal<K>], n: usize)
     requires size { n ≤ most_variables }
     requires room { n ≤ length row.old }
-    ensures free { AllFree ops n row.new }
+    ensures free { AllFree K.ops n row.new }
     ensures rest { drop n row.new ≡ drop n row.old }
 {
     for v in 0..n {
@@ -62,7 +62,7 @@ pub fn restart<K: Kind>(row: &mut [Normal<K>], n: usize)
 // `a` with the images put in for its variables, one join for each. Asks that the row has `n` images.
 fn apply<K: Kind>(row: &[Normal<K>], n: usize, a: Normal<K>) -> Normal<K>
     requires { n ≤ length row.now }
-    ensures { SameNormal ops result (substituted ops n (images ops row.now) a) }
+    ensures { SameNormal K.ops result (substituted K.ops n (images K.ops row.now) a) }
 {
     let mut sum = Normal::of_constant(a.constant);
     let mut rest = a.vars;
@@ -79,8 +79,8 @@ fn apply<K: Kind>(row: &[Normal<K>], n: usize, a: Normal<K>) -> Normal<K>
 // has `n` images.
 pub fn judge<K: Kind>(row: &[Normal<K>], n: usize, a: Normal<K>) -> Judgement<K>
     requires { n ≤ length row.now }
-    ensures verdict { (rs : List (Form K)) → SolvedRow ops n rs row.now → Says ops n rs a (judged_as result) }
-    ensures remains { Remains ops n row.now a result }
+    ensures verdict { (rs : List (Form K)) → SolvedRow K.ops n rs row.now → Says K.ops n rs a (judged_as result) }
+    ensures remains { Remains K.ops n row.now a result }
 {
     let remainder = apply(row, n, a);
     match remainder.vars.highest() {
@@ -102,8 +102,8 @@ fn bind<K: Kind>(row: &mut [Normal<K>], n: usize, pivot: usize, remainder: Norma
     requires pivot { pivot < most_variables }
     requires size { n ≤ most_variables }
     requires room { n ≤ length row.old }
-    ensures changed { (v : ℕ) → v < n → has result v ≡ has (images ops row.old v).vars pivot }
-    ensures bound { EqualImages n (images ops row.new) (binding ops pivot remainder (images ops row.old)) }
+    ensures changed { (v : ℕ) → v < n → has result v ≡ has (images K.ops row.old v).vars pivot }
+    ensures bound { EqualImages n (images K.ops row.new) (binding K.ops pivot remainder (images K.ops row.old)) }
     ensures rest { drop n row.new ≡ drop n row.old }
 {
     let mut changed = VarSet::empty();
@@ -123,9 +123,9 @@ fn bind<K: Kind>(row: &mut [Normal<K>], n: usize, pivot: usize, remainder: Norma
 pub fn take_in<K: Kind>(row: &mut [Normal<K>], n: usize, a: Normal<K>) -> Taken
     requires size { n ≤ most_variables }
     requires room { n ≤ length row.old }
-    ensures verdict { (rs : List (Form K)) → SolvedRow ops n rs row.old → Says ops n rs a (taken_as result) }
-    ensures grown { (rs : List (Form K)) → SolvedRow ops n rs row.old → Grown ops n rs a row.new result }
-    ensures undoable { Undoable ops n row.old row.new result }
+    ensures verdict { (rs : List (Form K)) → SolvedRow K.ops n rs row.old → Says K.ops n rs a (taken_as result) }
+    ensures grown { (rs : List (Form K)) → SolvedRow K.ops n rs row.old → Grown K.ops n rs a row.new result }
+    ensures undoable { Undoable K.ops n row.old row.new result }
     ensures rest { drop n row.new ≡ drop n row.old }
 {
     match judge(row, n, a) {
@@ -145,7 +145,7 @@ pub fn unbind<K: Kind>(row: &mut [Normal<K>], n: usize, p: usize, changed: VarSe
     requires variable { p < n }
     requires size { n ≤ most_variables }
     requires room { n ≤ length row.old }
-    ensures unbound { EqualImages n (images ops row.new) (unbinding ops p changed (images ops row.old)) }
+    ensures unbound { EqualImages n (images K.ops row.new) (unbinding K.ops p changed (images K.ops row.old)) }
     ensures rest { drop n row.new ≡ drop n row.old }
 {
     let variable = Normal::of_variable(p);

@@ -99,7 +99,7 @@ pub fn check<K: Kind>(
 
 fn leaf<K: Kind>(node: Node<K>) -> Normal<K>
     requires { ((node.form ≡ 1 → node.variable < most_variables)) × (node.form < 2) }
-    ensures { result ≡ leaf_of ops node node.form }
+    ensures { result ≡ leaf_of K.ops node node.form }
 {
     if node.form == CONSTANT {
         Normal::of_constant(node.constant)
@@ -121,7 +121,7 @@ fn collect<K: Kind>(table: &[Node<K>], work: &mut [u8]) -> Normal<K>
     requires room { length table.now ≤ length work.old }
     requires bits { (i : ℕ) → i < length table.now → slice_index work.old i ≤ 1 }
     ensures work { Cleared (length table.now) work.old work.new }
-    ensures sum { SameNormal ops result (picked_sum ops table.now work.old) }
+    ensures sum { SameNormal K.ops result (picked_sum K.ops table.now work.old) }
 {
     let mut sum = Normal::zero();
     for i in (0..table.len()).rev() {
@@ -147,7 +147,7 @@ pub fn normal_form<K: Kind>(
     side: usize,
     work: &mut [u8],
 ) -> Result<Normal<K>, Refusal>
-    ensures result { Outcome n (input table.now side side (length work.old)) (λ x. SameNormal ops x (normal ops (term_at ops table.now side))) result }
+    ensures result { Outcome n (input table.now side side (length work.old)) (λ x. SameNormal K.ops x (normal K.ops (term_at K.ops table.now side))) result }
     ensures work { Worked (PastMemory n (input table.now side side (length work.old))) (length table.now) work.old work.new }
 {
     if let Err(q) = check(n, table, side, side, work) {
@@ -165,7 +165,7 @@ pub fn joined_form<K: Kind>(
     right: usize,
     work: &mut [u8],
 ) -> Result<Normal<K>, Refusal>
-    ensures result { Outcome n (input table.now left right (length work.old)) (λ x. SameNormal ops x (normal ops (join (term_at ops table.now left) (term_at ops table.now right)))) result }
+    ensures result { Outcome n (input table.now left right (length work.old)) (λ x. SameNormal K.ops x (normal K.ops (join (term_at K.ops table.now left) (term_at K.ops table.now right)))) result }
     ensures work { Worked (PastMemory n (input table.now left right (length work.old))) (length table.now) work.old work.new }
 {
     if let Err(q) = check(n, table, left, right, work) {
@@ -184,9 +184,9 @@ pub fn equivalent<K: Kind>(
     right: usize,
     work: &mut [u8],
 ) -> Result<bool, Refusal>
-    ensures result { Outcome n (input table.now left right (length work.old)) (λ b. Decides b (Equiv ops (term_at ops table.now left) (term_at ops table.now right))) result }
+    ensures result { Outcome n (input table.now left right (length work.old)) (λ b. Decides b (Equiv K.ops (term_at K.ops table.now left) (term_at K.ops table.now right))) result }
     ensures work { Worked (PastMemory n (input table.now left right (length work.old))) (length table.now) work.old work.new }
-    ensures decide { NormalFormsDecide ops }
+    ensures decide { NormalFormsDecide K.ops }
 {
     match joined_form(n, table, left, right, work) {
         Ok(form) => Ok(form.same(Normal::zero())),

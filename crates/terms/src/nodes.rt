@@ -37,7 +37,7 @@ impl<K: Kind> Node<K> {
     }
 
     pub fn of_variable(variable: u8) -> Node<K>
-        ensures { result ≡ variable_node ops variable }
+        ensures { result ≡ variable_node K.ops variable }
     {
         Node {
             form: VARIABLE,
@@ -49,7 +49,7 @@ impl<K: Kind> Node<K> {
     }
 
     pub fn of_join(left: u16, right: u16) -> Node<K>
-        ensures { result ≡ join_node ops left right }
+        ensures { result ≡ join_node K.ops left right }
     {
         Node {
             form: JOIN,

@@ -26,7 +26,7 @@ impl<K: Kind> Normal<K> {
     // The normal form of the variable `v`. Asks that it is one.
     pub fn of_variable(v: usize) -> Normal<K>
         requires { v < most_variables }
-        ensures { result ≡ of_variable ops v }
+        ensures { result ≡ of_variable K.ops v }
     {
         Normal {
             vars: VarSet::singleton(v),
@@ -35,13 +35,13 @@ impl<K: Kind> Normal<K> {
     }
 
     pub fn zero() -> Normal<K>
-        ensures { result ≡ zero_form ops }
+        ensures { result ≡ zero_form K.ops }
     {
         Normal::of_constant(K::zero())
     }
 
     pub fn join(self, other: Normal<K>) -> Normal<K>
-        ensures { result ≡ joined ops self other }
+        ensures { result ≡ joined K.ops self other }
     {
         Normal {
             vars: self.vars.symmetric_difference(other.vars),
@@ -50,7 +50,7 @@ impl<K: Kind> Normal<K> {
     }
 
     pub fn same(self, other: Normal<K>) -> bool
-        ensures { Decides result (SameNormal ops self other) }
+        ensures { Decides result (SameNormal K.ops self other) }
     {
         self.vars.same(other.vars) && self.constant.same(&other.constant)
     }
