@@ -24,8 +24,8 @@ returns-in-2 g c q (operand e (inr l)) = omega (arith, c.if-node-i-2.true)
 pub returns-in-2-2 : goal.returns-in-2-2
 returns-in-2-2 g c = operand c.in-2.is (inr c.if-node-i-2.false)
 
-pub returns-in-2-2·2 : goal.returns-in-2-2·2
-returns-in-2-2·2 g c = operand c.in-2.is (inl c.if-node-i.false)
+pub returns-in-2-2-2 : goal.returns-in-2-2-2
+returns-in-2-2-2 g c = operand c.in-2.is (inl c.if-node-i.false)
 
 pub returns-in_default : goal.returns-in_default
 returns-in_default g c = form (search rules)

@@ -20,5 +20,5 @@ pub returns : goal.returns
 returns c =
     record {
       value = zeros-decide c.args.bytes.now c.zeros.result c.zeros.ensures.within c.zeros.ensures.before c.zeros.ensures.there;
-      below = λ i. (c.type-inv.bytes i).fits;
+      below = λ i. (c.type_inv.bytes i).fits;
     }
