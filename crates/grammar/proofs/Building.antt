@@ -1,5 +1,5 @@
 -- A stack of terms builds an equation's terms.
-use Rattle.std.proofs.Common.{◌≡◌, ℕ, zero, suc, List, [], ◌∷◌, ◌++◌, Some, None, Option, sym, refl, ap, ◌∙◌, subst, append_assoc, append-nil}
+use Rattle.std.proofs.Common.{◌≡◌, ℕ, List, [], ◌∷◌, ◌++◌, Some, None, Option, sym, refl, ap, ◌∙◌, append_assoc, append-nil}
 use Rattle.grammar.specs.Grammar.{Symbol, variable, name, block, nought, xor, equals, opening, closing, Leaf, IsSum, IsPart, IsEquation, single, longer, item, nested, equation}
 use Rattle.grammar.specs.Trees.{Tree, leaf, joined, sum_tree, part_tree, left_tree, right_tree, Unambiguous}
 

@@ -1,5 +1,5 @@
 -- The leftmost fault is where the automaton stops.
-use Rattle.std.proofs.Common.{◌≡◌, ℕ, ◌↔◌, List, [], ◌∷◌, ◌++◌, Ok, Err, Result, sym, refl, ap, ◌∙◌, subst, append_assoc}
+use Rattle.std.proofs.Common.{◌≡◌, ℕ, List, [], ◌∷◌, ◌++◌, Ok, Err, Result, sym, refl, ap, ◌∙◌, subst, append_assoc}
 use Rattle.grammar.specs.Grammar.{Symbol, IsEquation, Begins}
 use Rattle.grammar.specs.Automaton.{State, start, step, run, then}
 use Rattle.grammar.specs.Faults.{Why, grammar, depth, AtFault, Faultless, Leftmost}

@@ -1,6 +1,6 @@
 -- The automaton runs on exactly while an equation can come.
-use Rattle.std.proofs.Common.{◌≡◌, ℕ, zero, suc, ◌+◌, Bool, true, false, ◌↔◌, List, [], ◌∷◌, ◌++◌, Ok, Err, Result, sym, refl, ap, ◌∙◌, subst, append_assoc, append-nil, arith}
-use Rattle.grammar.specs.Grammar.{Symbol, variable, name, block, nought, xor, equals, opening, closing, IsEquation, Begins, Never}
+use Rattle.std.proofs.Common.{◌≡◌, ℕ, zero, suc, ◌+◌, Bool, true, false, List, [], ◌∷◌, ◌++◌, Ok, Err, Result, sym, refl, ap, ◌∙◌, subst, append-nil, arith}
+use Rattle.grammar.specs.Grammar.{Symbol, variable, name, block, nought, xor, equals, opening, closing, Begins, Never}
 use Rattle.grammar.specs.Faults.{Why, grammar, depth}
 use Rattle.grammar.specs.Automaton.{State, state, start, step, run, whole, then, at_part}
 use Rattle.grammar.specs.Theorems.{Accepts, Runs, Stops, Deeper}

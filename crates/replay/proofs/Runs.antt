@@ -1,5 +1,5 @@
 -- Runs of requests on a session, one after another.
-use Rattle.std.proofs.Common.{◌≡◌, ℕ, zero, suc, ◌+◌, ◌<◌, ◌≤◌, ◌↔◌, List, [], ◌∷◌, ◌++◌, length, get_or, take, drop, set, sym, refl, ap, ◌∙◌, subst, add-one, arith}
+use Rattle.std.proofs.Common.{◌≡◌, ℕ, zero, suc, ◌+◌, ◌<◌, ◌≤◌, List, [], ◌∷◌, ◌++◌, length, get_or, take, drop, set, sym, refl, ap, ◌∙◌, subst, add-one, arith}
 use Rattle.std.proofs.lemmas.List.{take_more}
 use Rattle.kinds.specs.Kinds.{Operations, Lawful}
 use Rattle.tables.specs.Tables.{Input, Sized}
@@ -15,7 +15,7 @@ use Rattle.session.specs.Keeping.{Ready, Keeps, Answered, slots_of, ledger_of, m
 use Rattle.session.specs.Frames.{SameMemory, PastInput}
 use Rattle.session.proofs.Keeping.{kept_ready, same_memory, showing}
 use Rattle.replay.specs.declared.Ask.{Ask}
-use Rattle.replay.specs.Promise.{asked, call_of, events, WorkedOne, WorkedAll, Promise, new_usable}
+use Rattle.replay.specs.Promise.{call_of, events, WorkedOne, WorkedAll, Promise, new_usable}
 
 -- a use leaves an open session open, with its size and its usable length
 abbrev Stays : {C : Type 0} → Call C → State C → State C → Type 0

@@ -10,11 +10,10 @@ use Rattle.std.specs.Prelude.{◌≡◌, ℕ, ◌<◌, ◌≤◌, min, ◌↔◌
 use Rattle.kinds.specs.Kinds.{Operations}
 use Rattle.tables.specs.Tables.{Sized}
 use Rattle.tables.specs.Calls.{input, Worked}
-use Rattle.solving.specs.Substitutions.{Substitution, SameSubstitution}
+use Rattle.solving.specs.Substitutions.{SameSubstitution}
 use Rattle.solving.specs.Equations.{SameSolutions}
 use Rattle.solving.specs.SolvedForms.{Solved}
 use Rattle.steps.specs.Rows.{images}
-use Rattle.heads.specs.Heads.{Memory}
 use Rattle.session.specs.declared.answer.Answer.{Answer}
 use Rattle.session.specs.declared.answer.Answer.TheVariants.{Image}
 use Rattle.session.specs.declared.Session.{Session}

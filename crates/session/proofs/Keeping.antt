@@ -8,8 +8,8 @@ use Rattle.terms.specs.declared.normal.Normal.{Normal}
 use Rattle.terms.specs.Limits.{InRange, most_variables}
 use Rattle.terms.specs.NormalForms.{SameNormal}
 use Rattle.terms.proofs.NormalForms.{normal_laws}
-use Rattle.tables.specs.Tables.{Input, Sized, Sound, Unsound}
-use Rattle.tables.specs.Calls.{Refused as TableRefused, bad_size, unsound, PastMemory, Cleared, Worked}
+use Rattle.tables.specs.Tables.{Input, Sound, Unsound}
+use Rattle.tables.specs.Calls.{Refused as TableRefused, bad_size, unsound, PastMemory, Worked}
 use Rattle.tables.proofs.Tables.{term_in}
 use Rattle.steps.specs.declared.Taken.{Taken}
 use Rattle.steps.specs.declared.Taken.TheVariants as taken
@@ -26,14 +26,14 @@ use Rattle.steps.proofs.RowSteps.{row_starts}
 use Rattle.steps.proofs.Trails.{traced_start, traced_as, traced_follows, traced_binds, latest_push, length_latest, counts_now}
 use Rattle.session.specs.declared.answer.Receipt.{Receipt}
 use Rattle.session.specs.declared.answer.Answer.{Answer}
-use Rattle.session.specs.declared.answer.Answer.TheVariants.{Done, Posted, Told, Image, Refused}
+use Rattle.session.specs.declared.answer.Answer.TheVariants.{Image, Refused}
 use Rattle.heads.specs.declared.head.Head.{Head}
 use Rattle.heads.specs.declared.trail.Trail.{Trail}
 use Rattle.session.specs.declared.Session.{Session}
-use Rattle.heads.specs.Limits.{most_entries, most_marks}
-use Rattle.heads.specs.Heads.{Memory, NewHead, Marking, marked_head, counted_head, Noting}
-use Rattle.session.specs.Accounts.{Account, State, closed, opened, Use, Call, use_of, post, query, mark, show, new, with_standing, with_marks, equation, Solution, Holds, Step, still_closed, post_unsound, post_full, post_clash, post_taken, mark_full, marked, shown, FormPosted, form_full, form_clash, form_taken}
-use Rattle.session.specs.Keeping.{Ready, Kept, Keeps, Answered, slots_of, ledger_of, memory_of, reply, posted_reply}
+use Rattle.heads.specs.Limits.{most_entries}
+use Rattle.heads.specs.Heads.{Memory, NewHead, Marking, counted_head, Noting}
+use Rattle.session.specs.Accounts.{Account, closed, opened, Use, Call, use_of, post, mark, show, new, with_standing, with_marks, equation, Solution, Holds, Step, still_closed, post_full, post_clash, post_taken, mark_full, marked, shown, FormPosted, form_full, form_clash, form_taken}
+use Rattle.session.specs.Keeping.{Ready, Kept, Keeps, Answered, memory_of, reply, posted_reply}
 use Rattle.session.specs.Frames.{SameMemory, Unchanged, OnlyNext, PastInput}
 use Rattle.session.proofs.Recording.{records_more}
 

@@ -7,7 +7,7 @@
 --   Opens k s n r t       what opening s with n variables gives, whatever s was before
 --   Judges, Posts, Unwound   what the inner calls do
 --   reply, ..             what the calls give, as answers
-use Rattle.std.specs.Prelude.{◌≡◌, ℕ, ◌≤◌, true, List, length, take, Ok, Err, Result}
+use Rattle.std.specs.Prelude.{◌≡◌, ℕ, ◌≤◌, List, length, take, Ok, Err, Result}
 use Rattle.kinds.specs.Kinds.{Operations}
 use Rattle.refusals.specs.declared.Refusal.{Refusal}
 use Rattle.terms.specs.declared.normal.Normal.{Normal}

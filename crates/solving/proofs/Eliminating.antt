@@ -3,7 +3,7 @@ use Rattle.std.proofs.Common.{◌≡◌, ℕ, Bool, true, false, cond, ◌⊎◌
 use mathlib.Core.Bool.{false≢true}
 use Rattle.kinds.specs.Digits.{differs}
 use Rattle.kinds.proofs.Laws.{unit_right, interchange}
-use Rattle.kinds.specs.Kinds.{Operations, Laws, Lawful, SameConstant}
+use Rattle.kinds.specs.Kinds.{Operations, Laws, Lawful}
 use Rattle.terms.specs.declared.normal.Normal.{Normal}
 use Rattle.terms.specs.Sets.{has}
 use Rattle.terms.specs.NormalForms.{SameNormal, of_constant, zero_form, joined}

@@ -1,8 +1,8 @@
 -- The theorems about lists of equations.
 use Rattle.std.proofs.Common.{◌≡◌, ℕ, zero, suc, ◌⊎◌, ◌↔◌, List, [], ◌∷◌, ◌++◌, take, inl, inr, append_assoc, append-nil}
-use Rattle.kinds.specs.Kinds.{Operations, Laws, Lawful, SameConstant}
+use Rattle.kinds.specs.Kinds.{Operations, Lawful}
 use Rattle.terms.specs.declared.normal.Normal.{Normal}
-use Rattle.terms.specs.NormalForms.{SameNormal, zero_form}
+use Rattle.terms.specs.NormalForms.{zero_form}
 use Rattle.terms.proofs.SetFacts.{some_highest}
 use Rattle.terms.proofs.NormalForms.{normal_laws}
 use Rattle.solving.specs.Substitutions.{Substitution, Over}

@@ -6,7 +6,7 @@
 --   PastMemory n i        the checks of size, table and memory are passed
 --   Worked Past n before after   the first n bytes are zero and the others as before where Past holds, else all are as before
 --   byte_set w i          byte i of w is not zero
-use Rattle.std.specs.Prelude.{◌≡◌, ℕ, zero, suc, ◌<◌, ◌≤◌, Bool, true, false, not, List, length, set, Ok, Err, Result, ◌==◌, bit_xor, slice_index, slice_set}
+use Rattle.std.specs.Prelude.{◌≡◌, ℕ, zero, suc, ◌<◌, ◌≤◌, Bool, not, List, length, Ok, Err, Result, ◌==◌, bit_xor, slice_index, slice_set}
 use Rattle.kinds.specs.Kinds.{Operations}
 use Rattle.refusals.specs.declared.Refusal.{Refusal}
 use Rattle.refusals.specs.declared.Refusal.TheVariants.{BadSize}

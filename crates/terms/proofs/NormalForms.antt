@@ -1,5 +1,5 @@
 -- Normal forms keep the laws of exclusive or, and decide the equivalence of terms.
-use Rattle.std.proofs.Common.{◌≡◌, ℕ, suc, ◌+◌, ◌≤◌, sym, refl, ◌∙◌, ap₂, arith}
+use Rattle.std.proofs.Common.{ℕ, suc, ◌+◌, ◌≤◌, sym, refl, ◌∙◌, ap₂, arith}
 use Rattle.kinds.specs.Kinds.{Operations, Laws, Lawful}
 use Rattle.kinds.proofs.Laws.{unit_right, interchange}
 use Rattle.terms.specs.declared.normal.Normal.{Normal}

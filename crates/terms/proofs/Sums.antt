@@ -1,7 +1,7 @@
 -- Joins over picked numbers, in whatever keeps the laws of exclusive or.
 use Rattle.std.proofs.Common.{◌≡◌, ℕ, zero, suc, ◌+◌, ◌<◌, ◌≤◌, Bool, true, false, cond, sym, refl, ap₂, inl, inr, true≢false, arith}
 use mathlib.Core.Bool.{false≢true}
-use Rattle.std.proofs.lemmas.Bool.{cases_eq, cases_Bool}
+use Rattle.std.proofs.lemmas.Bool.{cases_eq}
 use Rattle.kinds.specs.Kinds.{Laws}
 use Rattle.kinds.specs.Digits.{differs}
 use Rattle.kinds.proofs.Laws.{unit_right, interchange}

@@ -2,7 +2,7 @@
 --   front_within   they end within the line
 --   front_push     one token more at the end
 --   whole_only     a line is one list of tokens at most
-use Rattle.std.proofs.Common.{◌≡◌, ℕ, ◌≤◌, List, [], ◌∷◌, ◌++◌, length, Some, None, Ok, Err, sym, refl, ap, subst, arith}
+use Rattle.std.proofs.Common.{◌≡◌, ℕ, ◌≤◌, List, [], ◌∷◌, ◌++◌, length, Some, None, Ok, sym, refl, ap, subst, arith}
 use Rattle.grammar.specs.Grammar.{Symbol}
 use Rattle.tokens.specs.Tokens.{Found, Next, Front, none, more, Whole}
 use Rattle.tokens.proofs.Nexts.{next_only, next_ahead}

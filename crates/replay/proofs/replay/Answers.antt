@@ -2,7 +2,7 @@ use Rattle.std.proofs.Common.{◌≡◌, length, take, drop, sym, refl, ap, ◌�
 use lib.ListN.{length-map}
 use Rattle.std.proofs.lemmas.List.{take_all}
 use Rattle.session.specs.Accounts.{opened, new}
-use Rattle.session.specs.Keeping.{Keeps, memory_of}
+use Rattle.session.specs.Keeping.{Keeps}
 use Rattle.replay.specs.Promise.{asks, answers}
 use Rattle.replay.proofs.Runs.{replaying_start, replaying_more, replayed, memory_on}
 use Rattle.replay.proofs.replay.Goals as goal

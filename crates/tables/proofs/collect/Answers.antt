@@ -1,6 +1,4 @@
-use Rattle.std.proofs.Common.{◌≡◌, ℕ, ◌-◌, ◌<◌, length, get_or, set, sym, refl, ◌∙◌, ap₂, arith, length-set}
-use lib.Bits.{bit_xor}
-use Rattle.tables.specs.Calls.{flipped}
+use Rattle.std.proofs.Common.{ℕ, ◌-◌, ◌<◌, length, sym, ◌∙◌, ap₂, arith, length-set}
 use Rattle.terms.specs.Limits.{most_variables}
 use Rattle.terms.specs.NormalForms.{joined}
 use Rattle.tables.proofs.Tables.{Fine, fine_at, val, val_leaf, val_join}

@@ -1,5 +1,5 @@
 use Rattle.std.proofs.Common.{Bool, true, false}
-use Rattle.kinds.specs.Kinds.{Operations, Lawful, Laws}
+use Rattle.kinds.specs.Kinds.{Operations, Lawful}
 use Rattle.kinds.proofs.Laws.{same_when_unit, unit_when_same}
 use Rattle.terms.specs.declared.normal.Normal.{Normal}
 use Rattle.terms.specs.Terms.{Term, Equiv, join}

@@ -1,5 +1,5 @@
 use Rattle.std.proofs.Common.{inl, inr, arith, rules}
-use Rattle.tables.specs.Tables.{NodeFault, form, variable, operand}
+use Rattle.tables.specs.Tables.{form, variable, operand}
 use Rattle.tables.proofs.fault.Goals as goal
 
 pub returns-in-0 : goal.returns-in-0

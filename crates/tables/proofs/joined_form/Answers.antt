@@ -1,9 +1,7 @@
 use Rattle.std.proofs.Common.{length, arith}
-use Rattle.kinds.specs.Kinds.{Laws}
 use Rattle.terms.specs.Limits.{most_variables}
 use Rattle.terms.specs.NormalForms.{normal}
 use Rattle.tables.specs.Tables.{term_at}
-use Rattle.tables.specs.Calls.{Cleared, flipped}
 use Rattle.terms.proofs.NormalForms.{normal_laws}
 use Rattle.tables.proofs.Tables.{faultless_more}
 use Rattle.tables.proofs.Counting.{zero_bits, flipped_bits, two_sides, cleared_after, cleared_flipped}

@@ -1,4 +1,4 @@
-use Rattle.std.proofs.Common.{◌≡◌, Ok, Err, Result, refl}
+use Rattle.std.proofs.Common.{Ok, Err, Result, refl}
 use Rattle.refusals.specs.declared.Refusal.{Refusal}
 use Rattle.heads.specs.declared.head.Head.{Head}
 use Rattle.session.specs.declared.Session.{Session}

@@ -1,7 +1,6 @@
-use Rattle.std.proofs.Common.{◌≡◌, length, get_or, drop, set, sym, refl, ap, ◌∙◌, subst, arith, length-set}
+use Rattle.std.proofs.Common.{◌≡◌, length, get_or, drop, sym, refl, ap, ◌∙◌, subst, arith, length-set}
 use Rattle.std.proofs.lemmas.List.{get_or-set_other, drop-set-lt}
 use Rattle.session.specs.Accounts.{form_full}
-use Rattle.heads.specs.Heads.{counted_head}
 use Rattle.session.specs.Keeping.{Kept}
 use Rattle.session.proofs.Keeping.{unchanged_self, row, full_form, clash_form, taken_form, with_this, posting, same_memory, only_next_self}
 use Rattle.session.proofs.Session.post_form.Goals as goal

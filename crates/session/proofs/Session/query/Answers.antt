@@ -1,4 +1,4 @@
-use Rattle.std.proofs.Common.{length, refl}
+use Rattle.std.proofs.Common.{length}
 use Rattle.tables.specs.Tables.{Input}
 use Rattle.tables.specs.Calls.{input}
 use Rattle.session.specs.declared.answer.Answer.TheVariants.{Told, Refused}

@@ -1,4 +1,4 @@
-use Rattle.std.proofs.Common.{◌≡◌, Some, None, sym, ap, arith}
+use Rattle.std.proofs.Common.{sym, arith}
 use Rattle.std.proofs.lemmas.Bool.{cond-true, cond-false}
 use Rattle.written.proofs.Spellings.{zero_same, same_zero}
 use Rattle.written.proofs.blocks.unless_zero.Goals as goal

@@ -1,6 +1,5 @@
 use Rattle.std.proofs.Common.{ℕ, ap}
 use Rattle.std.proofs.lemmas.Nat.{one_shl}
-use Rattle.terms.specs.declared.sets.VarSet.{VarSet}
 use Rattle.terms.specs.Sets.{singleton}
 use Rattle.terms.proofs.sets.VarSet.singleton.Goals as goal
 

@@ -1,4 +1,4 @@
-use Rattle.std.proofs.Common.{◌≡◌, ◌<◌, [], length, get_or, sym, refl, ◌∙◌, arith, below_more}
+use Rattle.std.proofs.Common.{◌≡◌, [], get_or, sym, refl, ◌∙◌, arith, below_more}
 use borrow.Author.Tests.{both_ways}
 use Rattle.words.specs.Words.{texts}
 use Rattle.words.proofs.Lookups.{index_first, index_absent}
