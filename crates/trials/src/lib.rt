@@ -2,14 +2,9 @@
 // sameness is coarser than equality. The tests compare messages over these and over the real kinds.
 #![tactic(auto)]
 
-ghost use Rattle.std.specs.Prelude.{◌≡◌, ◌%◌, bit_xor};
-ghost use Rattle.std.proofs.Common.{sym, ap, ap₂, ◌∙◌, rules, eqb→eq};
+ghost use Rattle.std.specs.Prelude.{◌≡◌};
 ghost use Rattle.trials.specs.Kinds.{single, low_bytes};
-ghost use Rattle.std.proofs.lemmas.Nat.{xor_mod, xor_comm};
-ghost use Rattle.std.specs.Int.Bits.{xor_assoc, xor_self};
-ghost use Rattle.std.proofs.Math.Dec.{eqb_refl};
-ghost use Rattle.kinds.specs.Tests.{equal_passes};
-ghost use Rattle.trials.specs.LowByteKindLemmas.{low};
+ghost use Rattle.trials.specs.Laws.{single_lawful, low_bytes_lawful};
 
 use kinds::Kind;
 
@@ -20,7 +15,7 @@ pub struct Single {}
 impl Kind for Single {
     ghost ops = { single };
 
-    ghost lawful = { Prim.search rules };
+    ghost lawful = { single_lawful };
 
     fn zero() -> Single {
         Single {}
@@ -44,19 +39,7 @@ pub struct LowByte {
 impl Kind for LowByte {
     ghost ops = { low_bytes };
 
-    ghost lawful = { record {
-      same_self = λ a. eqb_refl (low a);
-      same_sym = λ {a} {b} p. equal_passes _ _ (sym (eqb→eq (low a) (low b) p));
-      same_trans = λ {a} {b} {c} p q. equal_passes _ _ (eqb→eq (low a) (low b) p ∙ eqb→eq (low b) (low c) q);
-      join_same = λ {a} {b} {c} {d} p q. equal_passes _ _ (
-          xor_mod a.word c.word 8
-          ∙ ap₂ bit_xor (eqb→eq (low a) (low b) p) (eqb→eq (low c) (low d) q)
-          ∙ sym (xor_mod b.word d.word 8));
-      assoc = λ a b c. equal_passes _ _ (ap (λ x. x % 256) (xor_assoc a.word b.word c.word));
-      comm = λ a b. equal_passes _ _ (ap (λ x. x % 256) (xor_comm a.word b.word));
-      unit = λ a. eqb_refl (low a);
-      self = λ a. equal_passes _ _ (ap (λ x. x % 256) (xor_self a.word));
-    } };
+    ghost lawful = { low_bytes_lawful };
 
     fn zero() -> LowByte {
         LowByte { word: 0 }
