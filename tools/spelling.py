@@ -3,8 +3,10 @@
 
 usage: python3 tools/spelling.py    at the top of the repository, once, after the toolchain's own port script
 
-Only names that the repository defines are turned: names of the library, names that Rattle makes (`returns-in-Ok`), the
-functions of src/, strings, inputs and outputs stay. It stops, and writes nothing, where two names would fall together.
+Turned are the dashed names that stand in the files of specs/ and the lemma files of proofs/ and that no import brings in
+from outside the repository, wherever they stand in specs/, proofs/, src/ and the edits; and the capitals below. Names that
+Rattle makes (`returns-in-Ok`) and the functions of src/ have no such names and stay, and so do inputs and outputs, which are
+not read. It stops, and writes nothing, where two names would fall together, but for those below that lie apart.
 """
 
 import glob
@@ -83,7 +85,7 @@ def main():
             w = m.group(0)
             head = text[text.rfind("\n", 0, m.start()) + 1 : m.start()]
             # in prose a capital is the subject's; in a list of definitions it is the name
-            prose = head.lstrip().startswith("--") and head.strip() != "--"
+            prose = head.lstrip().startswith("--") and head != "--   "
             return turned.get(w) or (w if prose else capitals.get(w, w))
 
         new = NAME.sub(turn, text)

@@ -99,7 +99,7 @@ session_samples =
     (posts at_zero at_zero ∷ shows 0 x0 ∷ shows 1 x1 ∷ [])
     -- a = 0 cannot be
     ∷ (clashes at_a at_zero ∷ [])
-    -- x0 ^ X1 = a binds X1
+    -- X0 ^ X1 = a binds X1
     ∷ (posts at_x0_x1 at_a ∷ shows 1 (join x0 a) ∷ shows 0 x0 ∷ [])
     -- then X0 = X1 cannot be
     ∷ (posts at_x0_x1 at_a ∷ clashes at_x0 at_x1 ∷ [])

@@ -1,4 +1,4 @@
--- The tokens of a line, a list of bytes; `get_or line i 0` is its byte at i. A token runs as far as its bytes allow, and
+-- The tokens of a line, a list of bytes; `slice_index line i` is its byte at i. A token runs as far as its bytes allow, and
 -- spaces may stand before it.
 --   span line s e      the bytes from s to e
 --   Stretch p line a e   every byte from a to e passes p

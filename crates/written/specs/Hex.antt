@@ -1,10 +1,10 @@
 -- Hexadecimal digits, as bytes of text: 0 to 9 are the bytes 48 to 57, a to f the bytes 97 to 102.
---   between a b x   x is a at least and b at most
---   hex_value_of b     the value of the digit b; 0 where b is no digit
---   hex_digit_of v     the digit of the value v, which is below 16
---   of_digits ds    the block of the digits ds, two for each byte, the high half first; digits past the end count as 0
---   digit_at x j    digit j of the block x, from 0
---   digits_of x     the digits of the block x, two for each byte, the high half first
+--   between a b x    x is a at least and b at most
+--   hex_value_of b   the value of the digit b; 0 where b is no digit
+--   hex_digit_of v   the digit of the value v, which is below 16
+--   of_digits ds     the block of the digits ds, two for each byte, the high half first; digits past the end count as 0
+--   digit_at x j     digit j of the block x, from 0
+--   digits_of x      the digits of the block x, two for each byte, the high half first
 use Rattle.std.specs.Prelude.{ℕ, ◌+◌, ◌-◌, ◌*◌, ◌/◌, ◌%◌, Bool, cond, ◌&&◌, List, ◌==◌, nat_le, nat_lt, slice_index}
 use Rattle.kinds.specs.declared.blocks.Block.{Block}
 use Rattle.kinds.specs.Blocks.{block_bytes, byte, row, of_bytes}
