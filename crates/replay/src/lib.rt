@@ -82,7 +82,7 @@ fn shown<K: Kind>(r: Result<(), Refusal>, image: Normal<K>) -> Answer<K>
 // Asks one thing of a session.
 fn perform<K: Kind>(session: &mut Session<K>, ask: &Ask<K>, work: &mut [u8]) -> Answer<K>
     ensures told { Answered K.ops session.old (call_of (length work.old) ask.now) result session.new }
-    ensures work { ((Ready session.old → WorkedOne ask.now work.old work.new)) × (((Ready session.old → ⊥) → work.new ≡ work.old)) }
+    ensures work { (Ready session.old → WorkedOne ask.now work.old work.new) × ((Ready session.old → ⊥) → work.new ≡ work.old) }
     ensures slots { drop session.old.head.size (slots_of session.new) ≡ drop session.old.head.size (slots_of session.old) }
     ensures ledger { drop session.old.head.usable (ledger_of session.new) ≡ drop session.old.head.usable (ledger_of session.old) }
     ensures memory { SameMemory session.old session.new }

@@ -98,7 +98,7 @@ pub fn check<K: Kind>(
 }
 
 fn leaf<K: Kind>(node: Node<K>) -> Normal<K>
-    requires { ((node.form ≡ 1 → node.variable < most_variables)) × (node.form < 2) }
+    requires { (node.form ≡ 1 → node.variable < most_variables) × (node.form < 2) }
     ensures { result ≡ leaf_of K.ops node node.form }
 {
     if node.form == CONSTANT {
