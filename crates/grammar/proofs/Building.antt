@@ -1,5 +1,6 @@
 -- A stack of terms builds an equation's terms.
 use Rattle.std.proofs.Common.{◌≡◌, ℕ, List, [], ◌∷◌, ◌++◌, Some, None, Option, sym, refl, ap, ◌∙◌, append_assoc, append-nil}
+use Rattle.std.specs.Option.{option_and_then}
 use Rattle.grammar.specs.Grammar.{Symbol, variable, name, block, nought, xor, equals, opening, closing, Leaf, IsSum, IsPart, IsEquation, single, longer, item, nested, equation}
 use Rattle.grammar.specs.Trees.{Tree, leaf, joined, sum_tree, part_tree, left_tree, right_tree, Unambiguous}
 
@@ -11,13 +12,9 @@ abbrev pub put : Option Tree → Tree → Option Tree
 put None t = Some t
 put (Some l) t = Some (joined l t)
 
-abbrev pub put_all : Option Tree → Option Tree → Option Tree
-put_all b None = None
-put_all b (Some t) = put b t
-
 abbrev pub shut : Option Tree → Option Tree → List (Option Tree) → Stack
 shut l n [] = stack l n []
-shut l n (b ∷ bs) = stack l (put_all b n) bs
+shut l n (b ∷ bs) = stack l (option_and_then (put b) n) bs
 
 abbrev pub feed : Stack → Symbol → Stack
 feed (stack l n bs) (variable w) = stack l (put n (leaf (variable w))) bs
@@ -61,18 +58,5 @@ pub builds : {d : ℕ} {ts : List Symbol} (x : IsEquation d ts) → feeds empty 
 builds (equation {us = us} s u) =
     sum_feeds s None [] (equals ∷ us) ∙ (ap (feeds (stack (Some (sum_tree s)) None [])) (sym (append-nil us)) ∙ sum_feeds u (Some (sum_tree s)) [] [])
 
-or_else : Tree → Option Tree → Tree
-or_else t None = t
-or_else t (Some u) = u
-
-left_of : Tree → Stack → Tree
-left_of t (stack l n bs) = or_else t l
-
-sum_of : Tree → Stack → Tree
-sum_of t (stack l n bs) = or_else t n
-
 pub unambiguous : Unambiguous
-unfolding or_else left_of sum_of
-unambiguous ts d e x y =
-    let p = sym (builds x) ∙ builds y in
-    (ap (left_of (left_tree x)) p, ap (sum_of (left_tree x)) p)
+unambiguous ts d e x y = let p = sym (builds x) ∙ builds y in (cc, cc)

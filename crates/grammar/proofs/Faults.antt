@@ -3,7 +3,7 @@ use Rattle.std.proofs.Common.{◌≡◌, ℕ, List, [], ◌∷◌, ◌++◌, Ok,
 use Rattle.grammar.specs.Grammar.{Symbol, IsEquation, Begins}
 use Rattle.grammar.specs.Automaton.{State, start, step, run, then}
 use Rattle.grammar.specs.Faults.{Why, grammar, depth, AtFault, Faultless, Leftmost}
-use Rattle.grammar.proofs.Stopping.{runs, stops, err_ok}
+use Rattle.grammar.proofs.Stopping.{runs, stops}
 
 record Stop (s : State) (ts : List Symbol) (c : Why) : Type 0 where
   before : List Symbol
@@ -15,7 +15,7 @@ record Stop (s : State) (ts : List Symbol) (c : Why) : Type 0 where
   stops_here : step state here ≡ Err c
 
 first_stop : (ts : List Symbol) (s : State) (c : Why) → run s ts ≡ Err c → Stop s ts c
-first_stop [] s c e = absurd (err_ok c s (sym e))
+first_stop [] s c e = cc
 first_stop (t ∷ ts) s c e = go (step s t) refl e (λ m. first_stop ts m c)
   where
     go : (x : Result State Why) → step s t ≡ x → then x (λ m. run m ts) ≡ Err c → ((m : State) → run m ts ≡ Err c → Stop m ts c) → Stop s (t ∷ ts) c

@@ -1,40 +1,27 @@
 -- The automaton runs on exactly while an equation can come.
-use Rattle.std.proofs.Common.{◌≡◌, ℕ, zero, suc, ◌+◌, Bool, true, false, List, [], ◌∷◌, ◌++◌, Ok, Err, Result, sym, refl, ap, ◌∙◌, subst, append-nil, arith}
+use Rattle.std.proofs.Common.{◌≡◌, ℕ, zero, suc, ◌+◌, Bool, true, false, List, [], ◌∷◌, ◌++◌, Ok, Err, Result, sym, refl, ap, ◌∙◌, subst, append-nil, add-zero, add-suc, add_comm}
+use Rattle.std.specs.Result.{IsOkAnd}
 use Rattle.grammar.specs.Grammar.{Symbol, variable, name, block, nought, xor, equals, opening, closing, Begins, Never}
 use Rattle.grammar.specs.Faults.{Why, grammar, depth}
 use Rattle.grammar.specs.Automaton.{State, state, start, step, run, whole, then, at_part}
 use Rattle.grammar.specs.Theorems.{Accepts, Runs, Stops, Deeper}
-use Rattle.grammar.proofs.Taking.{After, Takes, rest, sound, complete}
-
-abbrev IsOk : Result State Why → Type 0
-IsOk (Ok n) = Unit {0}
-IsOk (Err c) = ⊥
-
-abbrev IsDepth : Why → Type 0
-IsDepth grammar = ⊥
-IsDepth depth = Unit {0}
-
-pub err_ok : (c : Why) (n : State) → Err c ≡ Ok n → ⊥
-err_ok c n e = subst IsOk (sym e) tt
-
-clash : grammar ≡ depth → ⊥
-clash e = subst IsDepth (sym e) tt
+use Rattle.grammar.proofs.Taking.{Takes, rest, sound, complete}
 
 pub run_split : (ts us : List Symbol) (s : State) → Takes s (ts ++ us) → (n : State) × (run s ts ≡ Ok n) × Takes n us
 run_split [] us s h = (s, refl, h)
 run_split (t ∷ ts) us s h = go (step s t) (λ m. run_split ts us m) h
   where
-    go : (x : Result State Why) → ((m : State) → Takes m (ts ++ us) → (n : State) × (run m ts ≡ Ok n) × Takes n us) → After x (λ n. Takes n (ts ++ us)) → (n : State) × (then x (λ m. run m ts) ≡ Ok n) × Takes n us
+    go : (x : Result State Why) → ((m : State) → Takes m (ts ++ us) → (n : State) × (run m ts ≡ Ok n) × Takes n us) → IsOkAnd x (λ n. Takes n (ts ++ us)) → (n : State) × (then x (λ m. run m ts) ≡ Ok n) × Takes n us
     go (Ok m) f h = f m h
     go (Err c) f h = absurd h
 
 pub run_join : (ts us : List Symbol) (s n : State) → run s ts ≡ Ok n → Takes n us → Takes s (ts ++ us)
-run_join [] us s n e h = subst (λ x. After x (λ m. Takes m us)) (sym e) h
+run_join [] us s n e h = subst (λ x. IsOkAnd x (λ m. Takes m us)) (sym e) h
 run_join (t ∷ ts) us s n e h = go (step s t) (λ m e. run_join ts us m n e h) e
   where
-    go : (x : Result State Why) → ((m : State) → run m ts ≡ Ok n → Takes m (ts ++ us)) → then x (λ m. run m ts) ≡ Ok n → After x (λ m. Takes m (ts ++ us))
+    go : (x : Result State Why) → ((m : State) → run m ts ≡ Ok n → Takes m (ts ++ us)) → then x (λ m. run m ts) ≡ Ok n → IsOkAnd x (λ m. Takes m (ts ++ us))
     go (Ok m) f e = f m e
-    go (Err c) f e = err_ok c n e
+    go (Err c) f e = cc
 
 pub run_more : (ts us : List Symbol) (s n : State) → run s ts ≡ Ok n → run s (ts ++ us) ≡ run n us
 run_more [] us s n e = ap (λ x. then x (λ m. run m us)) e
@@ -42,7 +29,7 @@ run_more (t ∷ ts) us s n e = go (step s t) (λ m. run_more ts us m n) e
   where
     go : (x : Result State Why) → ((m : State) → run m ts ≡ Ok n → run m (ts ++ us) ≡ run n us) → then x (λ m. run m ts) ≡ Ok n → then x (λ m. run m (ts ++ us)) ≡ run n us
     go (Ok m) f e = f m e
-    go (Err c) f e = absurd (err_ok c n e)
+    go (Err c) f e = cc
 
 -- every state has a completion
 have_rest : (k d : ℕ) (r : Bool) → (us : List Symbol) × Takes (state d k false r) us
@@ -107,7 +94,7 @@ run_lift (t ∷ ts) s n e = go (step s t) (step_lift t s) e (λ m. run_lift ts m
   where
     go : (x : Result State Why) → Lifted x (step (lift s) t) → then x (λ m. run m ts) ≡ Ok n → ((m : State) → run m ts ≡ Ok n → run (lift m) ts ≡ Ok (lift n)) → then (step (lift s) t) (λ m. run m ts) ≡ Ok (lift n)
     go (Ok m) l e f = ap (λ x. then x (λ m. run m ts)) l ∙ f m e
-    go (Err c) l e f = absurd (err_ok c n e)
+    go (Err c) l e f = cc
 
 whole_lift : (s : State) → whole (lift s) ≡ whole s
 whole_lift (state d k true r) = refl
@@ -117,40 +104,26 @@ whole_lift (state d zero false r) = refl
 pub deeper : Deeper
 deeper d ts e = let x = (accepts d ts).1 e in (accepts (suc d) ts).0 (lift x.0, run_lift ts (start d) x.0 x.1, whole_lift x.0 ∙ x.2)
 
-raise : ℕ → ℕ → ℕ
-raise zero d = d
-raise (suc j) d = suc (raise j d)
+begins_up : (j e : ℕ) (ts : List Symbol) → Begins e ts → Begins (e + j) ts
+begins_up zero e ts b = rw add-zero b
+begins_up (suc j) e ts b = let x = begins_up j e ts b in rw add-suc (x.0, deeper (e + j) (ts ++ x.0) x.1)
 
-raise_sum : (j d : ℕ) → raise j d ≡ j + d
-unfolding raise
-raise_sum zero d = omega arith
-raise_sum (suc j) d = let h : raise j d ≡ j + d = raise_sum j d in omega arith
-
-raise_swap : (j d : ℕ) → raise j d ≡ raise d j
-raise_swap j d = let a = raise_sum j d in let b = raise_sum d j in omega (arith, a, b)
-
-begins_up : (j e : ℕ) (ts : List Symbol) → Begins e ts → Begins (raise j e) ts
-unfolding raise
-begins_up zero e ts b = b
-begins_up (suc j) e ts b = let x = begins_up j e ts b in (x.0, deeper (raise j e) (ts ++ x.0) x.1)
-
-grammar_stays : (j d : ℕ) (ts : List Symbol) (n : State) (t : Symbol) → run (start d) ts ≡ Ok n → step n t ≡ Err grammar → (m : State) × (run (start (raise j d)) ts ≡ Ok m) × (step m t ≡ Err grammar)
-unfolding raise
-grammar_stays zero d ts n t e h = (n, e, h)
+grammar_stays : (j d : ℕ) (ts : List Symbol) (n : State) (t : Symbol) → run (start d) ts ≡ Ok n → step n t ≡ Err grammar → (m : State) × (run (start (d + j)) ts ≡ Ok m) × (step m t ≡ Err grammar)
+grammar_stays zero d ts n t e h = rw add-zero (n, e, h)
 grammar_stays (suc j) d ts n t e h =
     let x = grammar_stays j d ts n t e h in
-    (lift x.0, run_lift ts (start (raise j d)) x.0 x.1, subst (λ y. Lifted y (step (lift x.0) t)) x.2 (step_lift t x.0))
+    rw add-suc (lift x.0, run_lift ts (start (d + j)) x.0 x.1, subst (λ y. Lifted y (step (lift x.0) t)) x.2 (step_lift t x.0))
 
 pub no_begins : (d : ℕ) (ts : List Symbol) (n : State) (t : Symbol) (c : Why) → run (start d) ts ≡ Ok n → step n t ≡ Err c → Begins d (ts ++ t ∷ []) → ⊥
 no_begins d ts n t c e h b =
     let x = (runs d (ts ++ t ∷ [])).1 b in
     let y = run_more ts (t ∷ []) (start d) n e ∙ ap (λ x. then x (λ m. Ok m)) h in
-    err_ok c x.0 (sym y ∙ x.1)
+    cc (y, x.1)
 
 pub never : (d : ℕ) (ts : List Symbol) (n : State) (t : Symbol) → run (start d) ts ≡ Ok n → step n t ≡ Err grammar → Never (ts ++ t ∷ [])
 never d ts n t e h i b =
     let x = grammar_stays i d ts n t e h in
-    no_begins (raise i d) ts x.0 t grammar x.1 x.2 (subst (λ j. Begins j (ts ++ t ∷ [])) (raise_swap d i) (begins_up d i (ts ++ t ∷ []) b))
+    no_begins (d + i) ts x.0 t grammar x.1 x.2 (subst (λ j. Begins j (ts ++ t ∷ [])) (add_comm i d) (begins_up d i (ts ++ t ∷ []) b))
 
 pub deep : (d : ℕ) (ts : List Symbol) (n : State) (t : Symbol) → run (start d) ts ≡ Ok n → step n t ≡ Err depth → (e : ℕ) × Begins e (ts ++ t ∷ [])
 deep d ts n t e h =
@@ -160,7 +133,7 @@ deep d ts n t e h =
 pub stops : Stops
 stops d ts n t depth e h =
     let p = deep d ts n t e h in
-    ((λ _. (no_begins d ts n t depth e h, p), λ _. refl), (λ x. absurd (clash (sym x)), λ v. absurd (v p.0 p.1)))
+    ((λ _. (no_begins d ts n t depth e h, p), λ _. refl), (λ x. cc, λ v. absurd (v p.0 p.1)))
 stops d ts n t grammar e h =
     let v = never d ts n t e h in
-    ((λ x. absurd (clash x), λ o. absurd (v o.1.0 o.1.1)), (λ _. v, λ _. refl))
+    ((λ x. cc, λ o. absurd (v o.1.0 o.1.1)), (λ _. v, λ _. refl))

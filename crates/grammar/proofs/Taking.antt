@@ -1,18 +1,13 @@
 -- What the automaton takes is the grammar's.
-use Rattle.std.proofs.Common.{◌≡◌, ℕ, zero, suc, Bool, true, false, List, [], ◌∷◌, ◌++◌, Ok, Err, Result, sym, refl, ◌∙◌, subst, append_assoc, append-nil}
-use Rattle.std.proofs.lemmas.Bool.{both_ways}
+use Rattle.std.proofs.Common.{◌≡◌, ℕ, zero, suc, Bool, true, false, List, [], ◌∷◌, ◌++◌, sym, refl, ◌∙◌, subst, append_assoc, append-nil}
+use Rattle.std.specs.Result.{IsOkAnd}
 use Rattle.grammar.specs.Grammar.{Symbol, variable, name, block, nought, xor, equals, opening, closing, Leaf, IsSum, IsPart, IsEquation, single, longer, item, nested, equation}
-use Rattle.grammar.specs.Faults.{Why}
 use Rattle.grammar.specs.Automaton.{State, state, start, step, whole}
-
-abbrev pub After : Result State Why → (State → Type 0) → Type 0
-After (Ok n) P = P n
-After (Err c) P = ⊥
 
 -- from s, the tokens are taken and end whole
 abbrev pub Takes : State → List Symbol → Type 0
 Takes s [] = whole s ≡ true
-Takes s (t ∷ ts) = After (step s t) (λ n. Takes n ts)
+Takes s (t ∷ ts) = IsOkAnd (step s t) (λ n. Takes n ts)
 
 -- more parts of a sum
 pub data Tail (d : ℕ) : List Symbol → Type 0 where
@@ -63,8 +58,8 @@ by_equals (want p f) = on p f
     on p (finish t) = have (turn end (extend (single p) t))
 
 pub rest : (us : List Symbol) (d k : ℕ) (w r : Bool) → Takes (state d k w r) us → Rest d k w r us
-rest [] d k true r h = absurd (both_ways _ refl h)
-rest [] d (suc k) false r h = absurd (both_ways _ refl h)
+rest [] d k true r h = cc
+rest [] d (suc k) false r h = cc
 rest [] d zero false r h = rw h (have (finish end))
 rest (variable w ∷ us) d k true r h = by_leaf (variable w) tt (rest us d k false r h)
 rest (variable w ∷ us) d k false r h = absurd h

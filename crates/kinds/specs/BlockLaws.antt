@@ -1,23 +1,25 @@
 -- Blocks keep the laws of exclusive or.
 use Rattle.std.specs.Prelude.{◌≡◌, ℕ, ◌<◌, bit_xor, refl}
-use Rattle.std.proofs.Common.{ap, ap₂, sym, ◌∙◌, eqb→eq}
+use Rattle.std.specs.Bool.{passes}
+use Rattle.std.proofs.Common.{ap, ap₂, sym, ◌∙◌}
+use Rattle.std.proofs.lemmas.Bool.{eqb-true, eq-eqb}
 use Rattle.std.proofs.lemmas.Nat.{xor_comm}
 use Rattle.std.specs.Int.Bits.{xor_assoc, xor_self}
 use Rattle.kinds.specs.declared.blocks.Block.{Block}
 use Rattle.kinds.specs.Kinds.{SameConstant, Lawful}
 use Rattle.kinds.specs.Blocks.{block_bytes, byte, blocks}
+use Rattle.kinds.specs.Tests.{passes_true}
 use Rattle.kinds.specs.Rows.{get_or_row, each_in, each_out}
-use Rattle.kinds.specs.Tests.{equal_passes}
 
 -- equal byte by byte
 abbrev pub Equal : Block → Block → Type 0
 Equal x y = (i : ℕ) → i < block_bytes → byte x i ≡ byte y i
 
 pub block_same : (x y : Block) → Equal x y → SameConstant blocks x y
-block_same x y h = each_in _ block_bytes (λ i l. equal_passes _ _ (h i l))
+block_same x y h = passes _ (each_in _ block_bytes (λ i l. eq-eqb _ _ (h i l)))
 
 pub same_bytes : (x y : Block) → SameConstant blocks x y → Equal x y
-same_bytes x y h i l = eqb→eq _ _ (each_out _ block_bytes h i l)
+same_bytes x y h i l = eqb-true _ _ (each_out _ block_bytes (passes_true _ h) i l)
 
 pub byte_join : (x y : Block) (i : ℕ) → i < block_bytes → byte (blocks.join x y) i ≡ bit_xor (byte x i) (byte y i)
 byte_join x y i l = get_or_row _ block_bytes i l

@@ -4,7 +4,8 @@
 --   row f n       the list f 0, f 1, .. of n places
 --   each p n      p holds of every place below n
 --   blocks        zero is all zero bytes, joining is exclusive or byte by byte, equal blocks are the same
-use Rattle.std.specs.Prelude.{ℕ, zero, suc, Bool, true, ◌&&◌, List, [], ◌∷◌, ◌++◌, bit_xor, nat_eq, slice_index}
+use Rattle.std.specs.Prelude.{ℕ, Bool, List, map, bit_xor, nat_eq, slice_index}
+use Rattle.std.specs.List.{list_all, range_with_len}
 use Rattle.kinds.specs.declared.blocks.Block.{Block}
 use Rattle.kinds.specs.Kinds.{Operations}
 
@@ -15,12 +16,10 @@ abbrev pub byte : Block → ℕ → ℕ
 byte x i = slice_index x.bytes i
 
 unfoldable pub row : (ℕ → ℕ) → ℕ → List ℕ
-row f zero = []
-row f (suc n) = row f n ++ (f n ∷ [])
+row f n = map f (range_with_len 0 n)
 
 unfoldable pub each : (ℕ → Bool) → ℕ → Bool
-each p zero = true
-each p (suc n) = each p n && p n
+each p n = list_all p (range_with_len 0 n)
 
 abbrev pub of_bytes : List ℕ → Block
 of_bytes l = record { bytes = l }

@@ -1,5 +1,4 @@
 pub mod Kinds
-pub mod Digits
 pub mod Names
 pub mod Blocks
 pub mod Pairs

@@ -1,18 +1,9 @@
--- Tests that hold, and what is known of a test that holds.
-use Rattle.std.specs.Prelude.{◌≡◌, ℕ, Bool, true, false, ◌&&◌, T, ◌==◌, refl}
-use Rattle.std.proofs.Common.{subst}
-use Rattle.std.proofs.Math.Dec.{eqb_refl}
-
-pub equal_passes : (a b : ℕ) → a ≡ b → T (a == b)
-equal_passes a b e = subst (λ (c : ℕ). T (a == c)) e (eqb_refl a)
+-- What is known of a test that holds.
+use Rattle.std.specs.Prelude.{◌≡◌, Bool, true, false, ◌&&◌, T, refl}
 
 pub passes_true : (b : Bool) → T b → b ≡ true
 passes_true true t = refl
 passes_true false t = absurd t
-
-pub fails_false : (b : Bool) → (T b → ⊥) → b ≡ false
-fails_false true h = absurd (h tt)
-fails_false false h = refl
 
 pub both_pass : (a b : Bool) → T a → T b → T (a && b)
 both_pass true b s t = t

@@ -4,11 +4,12 @@ ghost use Rattle.kinds.specs.Blocks.{blocks};
 ghost use Rattle.kinds.specs.BlockLaws.{blocks_lawful};
 
 use crate::Kind;
+use std::array;
 
 // The bytes of a block.
 pub const BLOCK_BYTES: usize = 16;
 
-#[derive(Clone, Copy)]
+#[derive(Clone, Copy, Debug, PartialEq, Eq)]
 pub struct Block {
     pub bytes: [u8; BLOCK_BYTES],
 }
@@ -18,6 +19,7 @@ impl Kind for Block {
 
     ghost lawful = { blocks_lawful };
 
+    #[tactic(auto, unfolding(crate::specs::Blocks::row))]
     fn zero() -> Block {
         Block {
             bytes: [0; BLOCK_BYTES],
@@ -25,19 +27,12 @@ impl Kind for Block {
     }
 
     fn join(self, other: Block) -> Block {
-        let mut bytes = [0; BLOCK_BYTES];
-        for i in 0..BLOCK_BYTES {
-            bytes[i] = self.bytes[i] ^ other.bytes[i];
+        Block {
+            bytes: array::from_fn(|i| self.bytes[i] ^ other.bytes[i]),
         }
-        Block { bytes }
     }
 
     fn same(&self, other: &Block) -> bool {
-        for i in 0..BLOCK_BYTES {
-            if self.bytes[i] != other.bytes[i] {
-                return false;
-            }
-        }
-        true
+        self == other
     }
 }

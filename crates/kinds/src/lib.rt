@@ -21,6 +21,8 @@ pub trait Kind: Copy {
     fn join(self, other: Self) -> Self
         ensures { result ≡ ops.join self other };
 
+    // A function of the trait and no `==`: a kind may take for the same what has other fields, and a derived `==` would
+    // have to agree with this on every list that could stand for a block, also one of another length.
     fn same(&self, other: &Self) -> bool
         ensures { result ≡ ops.same self.now other.now };
 

@@ -30,6 +30,7 @@ impl<A: Kind, B: Kind> Kind for Pair<A, B> {
         }
     }
 
+    // by the sameness of either kind, which a derived `==` would not ask
     fn same(&self, other: &Pair<A, B>) -> bool {
         self.first.same(&other.first) && self.second.same(&other.second)
     }

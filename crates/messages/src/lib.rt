@@ -4,33 +4,47 @@
 use kinds::names::Names;
 use std::fmt;
 use terms::normal::Normal;
+use terms::sets::MOST_VARIABLES;
 
 // A message in the variables X0, X1, .. and the names a, b, .., as it is printed.
-#[derive(Drop)]
+#[derive(Clone, Copy)]
 pub struct Message(pub Normal<Names>);
 
-impl fmt::Display for Message {
+// A part of a message.
+#[derive(Clone, Copy)]
+enum Part {
+    Variable(usize),
+    Name(char),
+}
+
+impl fmt::Display for Part {
     fn fmt<W: fmt::Write>(&self, f: &mut fmt::Formatter<W>) -> fmt::Result {
-        let mut first = true;
-        for v in 0..64 {
-            if self.0.vars.contains(v) {
-                let between = separator(first);
-                write!(f, "{between}X{v}")?;
-                first = false;
-            }
+        match self {
+            Part::Variable(v) => write!(f, "X{v}"),
+            Part::Name(letter) => write!(f, "{letter}"),
         }
-        for (number, letter) in ('a'..='z').enumerate() {
-            if number < 26 && self.0.constant.contains(number as u32) {
-                let between = separator(first);
-                write!(f, "{between}{letter}")?;
-                first = false;
-            }
-        }
-        if first { write!(f, "0") } else { Ok(()) }
     }
 }
 
-// What stands before a part.
-fn separator(first: bool) -> &'static str {
-    if first { "" } else { " ^ " }
+impl fmt::Display for Message {
+    fn fmt<W: fmt::Write>(&self, f: &mut fmt::Formatter<W>) -> fmt::Result {
+        let Normal { vars, constant } = self.0;
+        if self.0.same(Normal::zero()) {
+            return f.write_str("0");
+        }
+        let variables = (0..MOST_VARIABLES)
+            .filter(|&v| vars.contains(v))
+            .map(Part::Variable);
+        let names = ('a'..='z')
+            .enumerate()
+            .filter(|&(number, _)| constant.contains(number))
+            .map(|(_, letter)| Part::Name(letter));
+        for (i, part) in variables.chain(names).enumerate() {
+            if i > 0 {
+                f.write_str(" ^ ")?;
+            }
+            write!(f, "{part}")?;
+        }
+        Ok(())
+    }
 }

@@ -1,7 +1,9 @@
 -- The number and the place of each refusal. Every promise that speaks of a refusal means these.
 --   number_of q   the number of the refusal q, 1 to 23
 --   place_of q    where it was met: the place that the case holds, and 0 where it holds none
-use Rattle.std.specs.Prelude.{ℕ}
+--   told q        how the refusal q is told: the word no, its number and its place, in decimal, one space between
+use Rattle.std.specs.Prelude.{ℕ, List, ◌++◌, codes}
+use Rattle.std.specs.Fmt.{decimal}
 use Rattle.refusals.specs.declared.Refusal.{Refusal}
 use Rattle.refusals.specs.declared.Refusal.TheVariants.{TableSize, WrongForm, WrongVariable, WrongOperand, NoSuchSide, BadSize, FewSlots, ShortMemory, Closed, ShortOutput, LedgerFull, Contradiction, MarksFull, NoMark, NothingToShow, NoToken, NotAllowed, TooDeep, WrongLength, DeniedLiteral, WordsFull, KindChoice, LineTooLong}
 
@@ -54,3 +56,6 @@ place_of (DeniedLiteral place) = place
 place_of (WordsFull place) = place
 place_of KindChoice = 0
 place_of (LineTooLong place) = place
+
+abbrev pub told : Refusal → List ℕ
+told q = codes "no " ++ (decimal (number_of q) ++ (codes " " ++ decimal (place_of q)))

@@ -3,11 +3,13 @@
 // call.
 #![tactic(auto)]
 
-ghost use Rattle.std.specs.Prelude.{◌≡◌};
-ghost use Rattle.refusals.specs.Refusals.{number_of, place_of};
+ghost use Rattle.std.specs.Prelude.{◌≡◌, Some};
+ghost use Rattle.refusals.specs.Refusals.{number_of, place_of, told};
+
+use std::fmt;
 
 // Why a call was refused. A case that has a place holds it; the place of any other is 0.
-#[derive(Clone, Copy)]
+#[derive(Clone, Copy, Debug, PartialEq, Eq)]
 pub enum Refusal {
     // a table with no node or too many
     TableSize,
@@ -106,5 +108,16 @@ impl Refusal {
             | Refusal::LineTooLong(place) => place,
             _ => 0,
         }
+    }
+}
+
+// A refusal as it is told: the word no, its number and its place.
+impl fmt::Display for Refusal {
+    ghost output = { λ q. Some (told q) };
+
+    fn fmt<W: fmt::Write>(&self, f: &mut fmt::Formatter<W>) -> fmt::Result {
+        let number = self.number();
+        let place = self.place();
+        write!(f, "no {number} {place}")
     }
 }

@@ -9,7 +9,7 @@ use Rattle.kinds.specs.NameLaws.{names_lawful}
 use Rattle.terms.specs.declared.nodes.Node.{Node}
 use Rattle.terms.specs.declared.normal.Normal.{Normal}
 use Rattle.terms.specs.Nodes.{constant_node, variable_node, join_node}
-use Rattle.terms.specs.Sets.{has, empty, singleton, symmetric_difference, Highest}
+use Rattle.terms.specs.Sets.{has, empty, singleton, symmetric_difference, equal, Highest}
 use Rattle.terms.specs.Terms.{Term, join}
 use Rattle.terms.specs.Sums.{gather}
 use Rattle.terms.specs.NormalForms.{of_variable, normal}
@@ -179,7 +179,7 @@ unfolding apply gather has empty singleton symmetric_difference
 linked = post_binds fresh at_x0_x1 at_a 1 (tt, tt) tt (refl, inl refl)
 
 pub samples_replay : Every Replays session_samples
-unfolding apply gather has empty singleton symmetric_difference
+unfolding apply gather has empty singleton symmetric_difference equal
 samples_replay =
     let zeros = post_follows fresh at_zero at_zero (tt, tt) tt refl tt in
     let zeros_0 = show_image zeros 0 x0 tt refl tt in

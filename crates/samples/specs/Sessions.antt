@@ -13,7 +13,7 @@
 --   lacks_mark       it is told to return, and refused since there is no mark
 --   session_samples  the table, each from a session just opened with two variables
 --   Replays l        these calls can give these answers, one after another
-use Rattle.std.specs.Prelude.{ℕ, List, [], ◌∷◌}
+use Rattle.std.specs.Prelude.{ℕ, List, [], ◌∷◌, Ok, Err}
 use Rattle.refusals.specs.declared.Refusal.TheVariants.{Contradiction, NoMark}
 use Rattle.kinds.specs.declared.names.Names.{Names}
 use Rattle.kinds.specs.Names.{names, one_name}
@@ -26,7 +26,7 @@ use Rattle.tables.specs.Calls.{input}
 use Rattle.steps.specs.declared.verdict.Verdict.{Verdict}
 use Rattle.steps.specs.declared.verdict.Verdict.TheVariants.{Forced, Open}
 use Rattle.heads.specs.Heads.{Memory}
-use Rattle.session.specs.declared.answer.Answer.TheVariants.{Done, Posted, Told, Image, Refused}
+use Rattle.session.specs.declared.answer.Reply.TheVariants.{Done, Posted, Told, Image}
 use Rattle.session.specs.Accounts.{Account, opened, use_of, post, query, mark, return_to_mark, show, new, Event, Run}
 use Rattle.samples.specs.Samples.{a, b, x0}
 
@@ -73,25 +73,25 @@ abbrev pub input_of : ℕ → ℕ → Input Names
 input_of i j = input table i j 7
 
 abbrev pub posts : ℕ → ℕ → Event Names
-posts i j = record { call = use_of (post (input_of i j)); answer = Posted }
+posts i j = record { call = use_of (post (input_of i j)); answer = Ok Posted }
 
 abbrev pub clashes : ℕ → ℕ → Event Names
-clashes i j = record { call = use_of (post (input_of i j)); answer = Refused Contradiction }
+clashes i j = record { call = use_of (post (input_of i j)); answer = Err Contradiction }
 
 abbrev pub asks : ℕ → ℕ → Verdict → Event Names
-asks i j w = record { call = use_of (query (input_of i j)); answer = Told w }
+asks i j w = record { call = use_of (query (input_of i j)); answer = Ok (Told w) }
 
 abbrev pub shows : ℕ → Term Names → Event Names
-shows v t = record { call = use_of (show v); answer = Image (normal names t) }
+shows v t = record { call = use_of (show v); answer = Ok (Image (normal names t)) }
 
 abbrev pub marks : Event Names
-marks = record { call = use_of mark; answer = Done }
+marks = record { call = use_of mark; answer = Ok Done }
 
 abbrev pub returns : Event Names
-returns = record { call = use_of return_to_mark; answer = Done }
+returns = record { call = use_of return_to_mark; answer = Ok Done }
 
 abbrev pub lacks_mark : Event Names
-lacks_mark = record { call = use_of return_to_mark; answer = Refused NoMark }
+lacks_mark = record { call = use_of return_to_mark; answer = Err NoMark }
 
 abbrev pub session_samples : List (List (Event Names))
 session_samples =

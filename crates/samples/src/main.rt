@@ -5,12 +5,11 @@
 use kinds::Kind;
 use kinds::names::Names;
 use messages::Message;
-use refusals::Refusal;
 use replay::{Ask, Request, replay};
 use session::Session;
-use session::answer::Answer;
+use session::answer::{Answer, Reply};
 use std::io;
-use steps::verdict::Verdict;
+use tables::Sides;
 use terms::nodes::Node;
 use terms::normal::Normal;
 
@@ -37,63 +36,42 @@ fn label(node: usize) -> &'static str {
     if node < NODES { LABELS[node] } else { "?" }
 }
 
-fn refused(rt: &HostRuntime, q: Refusal) -> io::Result<()> {
-    let number = q.number();
-    let place = q.place();
-    println!(rt; "no {number} {place}")
-}
-
-// What an answer is called, where a word says all.
-fn word(answer: Answer<Names>) -> Option<&'static str> {
+// Prints an answer, on the line of its action.
+fn print_answer(rt: &impl Print, answer: Answer<Names>) -> io::Result<()> {
     match answer {
-        Answer::Done => Some("done"),
-        Answer::Posted => Some("posted"),
-        Answer::Told(Verdict::Forced) => Some("forced"),
-        Answer::Told(Verdict::Never) => Some("never"),
-        Answer::Told(Verdict::Open) => Some("open"),
-        Answer::Image(_) | Answer::Refused(_) => None,
+        Ok(Reply::Done) => rt.println("done"),
+        Ok(Reply::Posted) => rt.println("posted"),
+        Ok(Reply::Told(verdict)) => rt.println(verdict),
+        Ok(Reply::Image(form)) => rt.println(Message(form)),
+        Err(refusal) => rt.println(refusal),
     }
 }
 
-fn print_answer(rt: &HostRuntime, answer: Answer<Names>) -> io::Result<()> {
-    if let Some(word) = word(answer) {
-        return println!(rt; "{word}");
-    }
-    match answer {
-        Answer::Image(form) => {
-            let image = Message(form);
-            println!(rt; "{image}")
-        }
-        Answer::Refused(q) => refused(rt, q),
-        _ => Ok(()),
-    }
-}
-
-fn print_equation(rt: &HostRuntime, verb: &str, left: usize, right: usize) -> io::Result<()> {
-    let left = label(left);
-    let right = label(right);
+fn print_equation(rt: &impl Print, verb: &str, sides: Sides<Names>) -> io::Result<()> {
+    let left = label(sides.left);
+    let right = label(sides.right);
     print!(rt; "  {verb} {left} = {right}: ")
 }
 
-fn print_ask(rt: &HostRuntime, ask: Ask<Names>) -> io::Result<()> {
+fn print_ask(rt: &impl Print, ask: Ask<Names>) -> io::Result<()> {
     match ask {
-        Ask::Post { left, right, .. } => print_equation(rt, "post", left, right),
-        Ask::Query { left, right, .. } => print_equation(rt, "query", left, right),
+        Ask::Post(sides) => print_equation(rt, "post", sides),
+        Ask::Query(sides) => print_equation(rt, "query", sides),
         Ask::Mark => rt.print("  mark: "),
         Ask::ReturnToMark => rt.print("  return: "),
-        Ask::Show { variable } => print!(rt; "  show X{variable}: "),
+        Ask::Show(variable) => print!(rt; "  show X{variable}: "),
     }
 }
 
 // Replays a review on a fresh session of two variables, and prints every action with its answer.
-fn review(rt: &HostRuntime, title: &str, requests: &mut [Request<Names>]) -> io::Result<()> {
+fn review(rt: &impl Print, title: &str, requests: &mut [Request<Names>]) -> io::Result<()> {
     let mut slots = [Normal::zero(); 2];
     let mut ledger = [Normal::zero(); 4];
     let mut work = [9; NODES];
     let mut session = Session::new(&mut slots, &mut ledger);
     println!(rt; "{title}")?;
-    if let Err(q) = replay(&mut session, 2, requests, &mut work) {
-        return refused(rt, q);
+    if let Err(refusal) = replay(&mut session, 2, requests, &mut work) {
+        return rt.println(refusal);
     }
     for request in requests.iter() {
         print_ask(rt, request.ask)?;
@@ -105,23 +83,24 @@ fn review(rt: &HostRuntime, title: &str, requests: &mut [Request<Names>]) -> io:
 fn asking<'a>(ask: Ask<'a, Names>) -> Request<'a, Names> {
     Request {
         ask,
-        answer: Answer::Done,
+        answer: Ok(Reply::Done),
     }
 }
 
+// A request of each sort by a line of its own: one function over both would be longer to call.
 fn post<'a>(table: &'a [Node<Names>], left: usize, right: usize) -> Request<'a, Names> {
-    asking(Ask::Post { table, left, right })
+    asking(Ask::Post(Sides::new(table, left, right)))
 }
 
 fn query<'a>(table: &'a [Node<Names>], left: usize, right: usize) -> Request<'a, Names> {
-    asking(Ask::Query { table, left, right })
+    asking(Ask::Query(Sides::new(table, left, right)))
 }
 
 fn show<'a>(variable: usize) -> Request<'a, Names> {
-    asking(Ask::Show { variable })
+    asking(Ask::Show(variable))
 }
 
-fn review_all(rt: &HostRuntime) -> io::Result<()> {
+fn review_all(rt: &impl Print) -> io::Result<()> {
     let nodes = nodes();
     let table = &nodes[..];
     review(
@@ -159,14 +138,14 @@ fn review_all(rt: &HostRuntime) -> io::Result<()> {
 }
 
 // Opens a session over 64 slots with so many variables.
-fn open(rt: &HostRuntime, n: usize) -> io::Result<()> {
+fn open(rt: &impl Print, n: usize) -> io::Result<()> {
     let mut slots = [Normal::<Names>::zero(); 64];
     let mut ledger = [Normal::zero(); 4];
     let mut session = Session::new(&mut slots, &mut ledger);
     print!(rt; "open with {n}: ")?;
     match session.open(n) {
-        Ok(_) => println!(rt; "done"),
-        Err(q) => refused(rt, q),
+        Ok(()) => rt.println("done"),
+        Err(refusal) => rt.println(refusal),
     }
 }
 

@@ -3,7 +3,7 @@
 --   Account C        size, usable ledger length, standing equations, marks
 --   State C          a session is closed, or open with an account
 --   Use C, Call C    the five calls of an open session; those and open
---   Answer C         what a call gives: see src/answer.rt
+--   AnswerOf C       what a call gives, a reply or a refusal: see src/answer.rt
 --   Unopened m n q   why a session over the memory m is not opened with n variables
 --   Solution k a θ   θ is a substitution over the account's variables that meets its standing equations
 --   Holds k a e w    which of the solutions meet e: all, none, or some and not all
@@ -23,9 +23,9 @@ use Rattle.steps.specs.declared.verdict.Verdict.TheVariants.{Forced, Never, Open
 use Rattle.solving.specs.Substitutions.{Substitution, Over}
 use Rattle.solving.specs.Equations.{Equation, Meets, MeetsAll}
 use Rattle.solving.specs.SolvedForms.{Solved}
-use Rattle.session.specs.declared.answer.Answer.{Answer}
 use Rattle.session.specs.declared.answer.Receipt.{Receipt}
-use Rattle.session.specs.declared.answer.Answer.TheVariants.{Done, Posted, Told, Image, Refused}
+use Rattle.session.specs.declared.answer.Reply.{Reply}
+use Rattle.session.specs.declared.answer.Reply.TheVariants.{Done, Posted, Told, Image}
 use Rattle.heads.specs.Limits.{most_entries, most_marks}
 use Rattle.heads.specs.Heads.{Memory}
 
@@ -50,6 +50,9 @@ pub data Call (C : Type 0) : Type 0 where
   open_with : ℕ → Call C
   use_of : Use C → Call C
 
+abbrev pub AnswerOf : Type 0 → Type 0
+AnswerOf C = Result (Reply C) Refusal
+
 -- just opened with n variables: no equation and no mark
 abbrev pub new : {C : Type 0} → Memory → ℕ → Account C
 new m n = record { size = n; usable = min m.ledger most_entries; standing = []; marks = [] }
@@ -72,7 +75,7 @@ equation k i = record { left = term_at k i.table i.left; right = term_at k i.tab
 -- a call with what it gave
 pub record Event (C : Type 0) : Type 0 where
   pub call : Call C
-  pub answer : Answer C
+  pub answer : AnswerOf C
 
 module _ {C : Type 0} (k : Operations C) where
   abbrev pub Solution : Account C → Substitution C → Type 0
@@ -85,37 +88,37 @@ module _ {C : Type 0} (k : Operations C) where
       ((θ : Substitution C) × Solution a θ × Meets k θ e)
       × ((θ : Substitution C) × Solution a θ × (Meets k θ e → ⊥))
 
-  pub data Step (m : Memory) : State C → Call C → Answer C → State C → Type 0 where
+  pub data Step (m : Memory) : State C → Call C → AnswerOf C → State C → Type 0 where
     -- open: the size, then the slots; an open session starts anew
-    bad_size : {s : State C} {n : ℕ} → (InRange n → ⊥) → Step m s (open_with n) (Refused BadSize) s
-    few_slots : {s : State C} {n : ℕ} → InRange n → m.slots < n → Step m s (open_with n) (Refused FewSlots) s
-    open_anew : {s : State C} {n : ℕ} → InRange n → n ≤ m.slots → Step m s (open_with n) Done (opened (new m n))
+    bad_size : {s : State C} {n : ℕ} → (InRange n → ⊥) → Step m s (open_with n) (Err BadSize) s
+    few_slots : {s : State C} {n : ℕ} → InRange n → m.slots < n → Step m s (open_with n) (Err FewSlots) s
+    open_anew : {s : State C} {n : ℕ} → InRange n → n ≤ m.slots → Step m s (open_with n) (Ok Done) (opened (new m n))
     -- a closed session refuses every other call
-    still_closed : {u : Use C} → Step m closed (use_of u) (Refused Closed) closed
+    still_closed : {u : Use C} → Step m closed (use_of u) (Err Closed) closed
     -- post: the checks of its input, then the ledger, then the equation
-    post_unsound : {a : Account C} {i : Input C} {q : Refusal} → Unsound a.size i q → Step m (opened a) (use_of (post i)) (Refused q) (opened a)
+    post_unsound : {a : Account C} {i : Input C} {q : Refusal} → Unsound a.size i q → Step m (opened a) (use_of (post i)) (Err q) (opened a)
     post_full : {a : Account C} {i : Input C} → Sound a.size i → length a.standing ≡ a.usable
-        → Step m (opened a) (use_of (post i)) (Refused LedgerFull) (opened a)
+        → Step m (opened a) (use_of (post i)) (Err LedgerFull) (opened a)
     post_clash : {a : Account C} {i : Input C} → Sound a.size i → length a.standing < a.usable → Holds a (equation k i) Never
-        → Step m (opened a) (use_of (post i)) (Refused Contradiction) (opened a)
+        → Step m (opened a) (use_of (post i)) (Err Contradiction) (opened a)
     post_taken : {a : Account C} {i : Input C} → Sound a.size i → length a.standing < a.usable
         → (θ : Substitution C) → Solution a θ → Meets k θ (equation k i)
-        → Step m (opened a) (use_of (post i)) Posted (opened (with_standing a (a.standing ++ (equation k i ∷ []))))
+        → Step m (opened a) (use_of (post i)) (Ok Posted) (opened (with_standing a (a.standing ++ (equation k i ∷ []))))
     -- query: the checks of its input alone; a full ledger does not matter
-    query_unsound : {a : Account C} {i : Input C} {q : Refusal} → Unsound a.size i q → Step m (opened a) (use_of (query i)) (Refused q) (opened a)
+    query_unsound : {a : Account C} {i : Input C} {q : Refusal} → Unsound a.size i q → Step m (opened a) (use_of (query i)) (Err q) (opened a)
     query_told : {a : Account C} {i : Input C} {w : Verdict} → Sound a.size i → Holds a (equation k i) w
-        → Step m (opened a) (use_of (query i)) (Told w) (opened a)
-    mark_full : {a : Account C} → length a.marks ≡ most_marks → Step m (opened a) (use_of mark) (Refused MarksFull) (opened a)
+        → Step m (opened a) (use_of (query i)) (Ok (Told w)) (opened a)
+    mark_full : {a : Account C} → length a.marks ≡ most_marks → Step m (opened a) (use_of mark) (Err MarksFull) (opened a)
     marked : {a : Account C} → length a.marks < most_marks
-        → Step m (opened a) (use_of mark) Done (opened (with_marks a (a.marks ++ (length a.standing ∷ []))))
+        → Step m (opened a) (use_of mark) (Ok Done) (opened (with_marks a (a.marks ++ (length a.standing ∷ []))))
     -- return: the latest mark goes, and the first equations stay, as many as stood at the mark
-    no_mark : {a : Account C} → a.marks ≡ [] → Step m (opened a) (use_of return_to_mark) (Refused NoMark) (opened a)
+    no_mark : {a : Account C} → a.marks ≡ [] → Step m (opened a) (use_of return_to_mark) (Err NoMark) (opened a)
     returned : {a : Account C} (count : ℕ) (ms : List ℕ) → a.marks ≡ ms ++ (count ∷ [])
-        → Step m (opened a) (use_of return_to_mark) Done (opened (with_marks (with_standing a (take count a.standing)) ms))
+        → Step m (opened a) (use_of return_to_mark) (Ok Done) (opened (with_marks (with_standing a (take count a.standing)) ms))
     -- show: the image in the solved form of the standing equations, up to sameness
-    no_variable : {a : Account C} {v : ℕ} → a.size ≤ v → Step m (opened a) (use_of (show v)) (Refused NothingToShow) (opened a)
+    no_variable : {a : Account C} {v : ℕ} → a.size ≤ v → Step m (opened a) (use_of (show v)) (Err NothingToShow) (opened a)
     shown : {a : Account C} {v : ℕ} {x : Normal C} → v < a.size → (σ : Substitution C) → Solved k a.size a.standing σ → SameNormal k x (σ v)
-        → Step m (opened a) (use_of (show v)) (Image x) (opened a)
+        → Step m (opened a) (use_of (show v)) (Ok (Image x)) (opened a)
 
   pub data Run (m : Memory) (s : State C) : List (Event C) → State C → Type 0 where
     start : Run m s [] s

@@ -14,18 +14,18 @@ use Rattle.session.specs.declared.Session.{Session}
 use Rattle.session.specs.declared.compare.Comparison.{Comparison}
 use Rattle.session.specs.declared.compare.Comparison.TheVariants.{Same, Different, Sizes}
 use Rattle.session.specs.Accounts.{Account, opened}
-use Rattle.session.specs.Keeping.{slots_of, Ready, Keeps}
+use Rattle.session.specs.Keeping.{slots_of, size_of, Ready, Keeps}
 
 -- the images of two sessions of one size are the same
 abbrev pub SameImages : {C : Type 0} → Operations C → Session C → Session C → Type 0
-SameImages k s t = SameSubstitution k s.head.size (images k (slots_of s)) (images k (slots_of t))
+SameImages k s t = SameSubstitution k (size_of s) (images k (slots_of s)) (images k (slots_of t))
 
 pub data Compared {C : Type 0} (k : Operations C) (s t : Session C) : Result Comparison Refusal → Type 0 where
   first_closed : (Ready s → ⊥) → Compared k s t (Err Closed)
   second_closed : Ready s → (Ready t → ⊥) → Compared k s t (Err Closed)
-  sizes : Ready s → Ready t → (s.head.size ≢ t.head.size) → Compared k s t (Ok Sizes)
-  same : Ready s → Ready t → s.head.size ≡ t.head.size → SameImages k s t → Compared k s t (Ok Same)
-  different : Ready s → Ready t → s.head.size ≡ t.head.size → (SameImages k s t → ⊥) → Compared k s t (Ok Different)
+  sizes : Ready s → Ready t → (size_of s ≢ size_of t) → Compared k s t (Ok Sizes)
+  same : Ready s → Ready t → size_of s ≡ size_of t → SameImages k s t → Compared k s t (Ok Same)
+  different : Ready s → Ready t → size_of s ≡ size_of t → (SameImages k s t → ⊥) → Compared k s t (Ok Different)
 
 -- what a result says of two accounts
 abbrev pub Tells : {C : Type 0} → Operations C → Account C → Account C → Result Comparison Refusal → Type 0

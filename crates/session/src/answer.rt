@@ -4,16 +4,18 @@ use steps::verdict::Verdict;
 use terms::normal::Normal;
 
 // What a post that is taken tells: so far only that it was.
-#[derive(Clone, Copy)]
+#[derive(Clone, Copy, Debug, PartialEq, Eq)]
 pub struct Receipt {}
 
-// What any call of a session gives. Opening, marking and returning are done; a post is posted, a query told, an image
-// shown.
+// What any call of a session gives where it is not refused. Opening, marking and returning are done; a post is posted, a
+// query told, an image shown.
 #[derive(Clone, Copy)]
-pub enum Answer<K> {
+pub enum Reply<K> {
     Done,
     Posted,
     Told(Verdict),
     Image(Normal<K>),
-    Refused(Refusal),
 }
+
+// What any call of a session gives: a reply, or why it is refused.
+pub type Answer<K> = Result<Reply<K>, Refusal>;

@@ -5,9 +5,8 @@ use crate::Session;
 use kinds::Kind;
 use refusals::Refusal;
 use rows::same_images;
-use terms::normal::Normal;
 
-#[derive(Clone, Copy)]
+#[derive(Clone, Copy, Debug, PartialEq, Eq)]
 pub enum Comparison {
     // the same images: the same substitutions meet the standing equations of both
     Same,
@@ -22,19 +21,11 @@ pub fn compare<K: Kind>(first: &Session<K>, second: &Session<K>) -> Result<Compa
     ensures result { Compared K.ops first.now second.now result }
     ensures solutions { Agreed K.ops first.now second.now result }
 {
-    if !first.is_open() {
-        return Err(Refusal::Closed);
-    }
-    if !second.is_open() {
-        return Err(Refusal::Closed);
-    }
-    let n = first.head.size;
-    if n != second.head.size {
+    let n = first.opened()?.size;
+    if n != second.opened()?.size {
         return Ok(Comparison::Sizes);
     }
-    let ours: &[Normal<K>] = first.slots;
-    let theirs: &[Normal<K>] = second.slots;
-    if same_images(ours, theirs, n) {
+    if same_images(&first.slots[..n], &second.slots[..n]) {
         Ok(Comparison::Same)
     } else {
         Ok(Comparison::Different)

@@ -1,12 +1,12 @@
 -- How a substitution acts on normal forms.
 use Rattle.std.proofs.Common.{◌≡◌, ℕ, zero, suc, ◌<◌, ◌≤◌, Bool, true, false, cond, ◌↔◌, sym, refl, ◌∙◌, subst, ap₂, inl, inr, arith}
 use Rattle.std.proofs.lemmas.Bool.{cases_eq, cases_lt, both_ways}
-use Rattle.kinds.specs.Digits.{differs}
-use Rattle.kinds.proofs.Digits.{differs_false}
+use Rattle.terms.specs.Sets.{differs}
+use Rattle.terms.proofs.SetFacts.{differs_false}
 use Rattle.kinds.proofs.Laws.{unit_right, interchange, cancel_right, same_when_unit, unit_when_same}
 use Rattle.kinds.specs.Kinds.{Operations, Lawful, SameConstant}
 use Rattle.terms.specs.declared.normal.Normal.{Normal}
-use Rattle.terms.specs.declared.sets.VarSet.{VarSet}
+use Rattle.terms.specs.Sets.{VarSet}
 use Rattle.terms.specs.Sets.{has, empty, singleton, symmetric_difference}
 use Rattle.terms.specs.Terms.{Term, const, var, join, Within}
 use Rattle.terms.specs.Sums.{gather}

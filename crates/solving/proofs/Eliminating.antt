@@ -1,7 +1,7 @@
 -- Putting a variable p out of normal forms, by joining a normal form r that has p.
 use Rattle.std.proofs.Common.{◌≡◌, ℕ, Bool, true, false, cond, ◌⊎◌, refl, ap, ◌∙◌, ap₂, inl, inr, true≢false}
 use mathlib.Core.Bool.{false≢true}
-use Rattle.kinds.specs.Digits.{differs}
+use Rattle.terms.specs.Sets.{differs}
 use Rattle.kinds.proofs.Laws.{unit_right, interchange}
 use Rattle.kinds.specs.Kinds.{Operations, Laws, Lawful}
 use Rattle.terms.specs.declared.normal.Normal.{Normal}

@@ -1,10 +1,10 @@
 -- The steps over a row of normal forms: loops that rewrite it, and what one more normal form makes of it.
-use Rattle.std.proofs.Common.{◌≡◌, ℕ, ◌+◌, ◌<◌, ◌≤◌, Bool, true, false, not, List, [], ◌∷◌, ◌++◌, length, get_or, take, drop, set, sym, refl, ap, ◌∙◌, subst, inl, inr, arith}
-use Rattle.std.proofs.lemmas.List.{take_more, get_or_read, get_or-set_same, get_or-set_other, drop-set-lt}
+use Rattle.std.proofs.Common.{◌≡◌, ℕ, ◌+◌, ◌<◌, ◌≤◌, Bool, true, false, not, List, [], ◌∷◌, ◌++◌, length, get_or, take, set, sym, refl, ap, ◌∙◌, subst, inl, inr, arith}
+use Rattle.std.proofs.lemmas.List.{take_more, get_or_read, get_or-set_same, get_or-set_other}
 use Rattle.std.proofs.lemmas.Bool.{cases_eq, both_ways}
 use Rattle.kinds.specs.Kinds.{Operations, Lawful}
 use Rattle.terms.specs.declared.normal.Normal.{Normal}
-use Rattle.terms.specs.declared.sets.VarSet.{VarSet}
+use Rattle.terms.specs.Sets.{VarSet}
 use Rattle.terms.specs.Sets.{has, empty, singleton, symmetric_difference, Highest}
 use Rattle.terms.specs.NormalForms.{SameNormal, of_variable}
 use Rattle.terms.proofs.SetFacts.{has_empty, toggled_that, toggled_other, taken_out}
@@ -29,7 +29,6 @@ row_read k row v x l is = get_or_read row v x l is (of_variable k v)
 pub record Rewriting {C : Type 0} (k : Operations C) (n : ℕ) (Done Left : ℕ → Type 0) (τ : Substitution C) (before after : List (Normal C)) : Type 0 where
   pub done : (u : ℕ) → Done u → images k after u ≡ τ u
   pub left : (u : ℕ) → Left u → images k after u ≡ images k before u
-  pub rest : drop n after ≡ drop n before
 
 module _ {C : Type 0} (k : Operations C) (n : ℕ) {Done Left : ℕ → Type 0} (τ : Substitution C) (before after : List (Normal C)) (h : Rewriting k n Done Left τ before after) where
   -- an element that is read before it is done
@@ -45,7 +44,6 @@ module _ {C : Type 0} (k : Operations C) (n : ℕ) {Done Left : ℕ → Type 0} 
       | inr o ↦ get_or-set_other after v u y (of_variable k u) o ∙ h.done u (d u i o)
     ];
     left = λ u i. get_or-set_other after v u y (of_variable k u) (f u i).1 ∙ h.left u (f u i).0;
-    rest = drop-set-lt n after v y low ∙ h.rest;
   }
 
   -- nothing to write at v
@@ -58,7 +56,6 @@ module _ {C : Type 0} (k : Operations C) (n : ℕ) {Done Left : ℕ → Type 0} 
       | inr o ↦ h.done u (d u j o)
     ];
     left = λ u j. h.left u (f u j);
-    rest = h.rest;
   }
 
 -- by rising variables, at v
@@ -67,14 +64,11 @@ Passing k n v τ before after = Rewriting k n (λ u. u < v) (λ u. v ≤ u) τ b
 
 module _ {C : Type 0} (k : Operations C) (n : ℕ) (τ : Substitution C) (before : List (Normal C)) where
   pub passing_start : Passing k n 0 τ before before
-  passing_start = record { done = λ u l. absurd (omega arith); left = λ u l. refl; rest = refl }
+  passing_start = record { done = λ u l. absurd (omega arith); left = λ u l. refl }
 
   pub passing_put : (v : ℕ) (after : List (Normal C)) (y : Normal C) → v < n → v < length after → y ≡ τ v
       → Passing k n v τ before after → Passing k n (v + 1) τ before (set after v y)
   passing_put v after y low l e h = rewriting_put k n τ before after h v y low l e (λ u i o. omega (arith, o)) (λ u i. (omega arith, λ q. omega arith))
-
-  pub passing_skip : (v : ℕ) (after : List (Normal C)) → images k before v ≡ τ v → Passing k n v τ before after → Passing k n (v + 1) τ before after
-  passing_skip v after e h = rewriting_skip k n τ before after h v (omega arith) (λ i. e) (λ u i o. omega (arith, o)) (λ u i. omega arith)
 
 -- by the members of a set s, of which those in rest are still to come; members from n upward are passed over
 pub record Visiting {C : Type 0} (k : Operations C) (n : ℕ) (s rest : VarSet) (τ : Substitution C) (before after : List (Normal C)) : Type 0 where
@@ -91,7 +85,7 @@ module _ {C : Type 0} (k : Operations C) (n : ℕ) (s : VarSet) (τ : Substituti
   pub visiting_start : ((u : ℕ) → has s u ≡ false → images k before u ≡ τ u) → Visiting k n s s τ before before
   visiting_start e = record {
     members = λ u m. m;
-    row = record { done = λ u i. e u i.1; left = λ u i. refl; rest = refl };
+    row = record { done = λ u i. e u i.1; left = λ u i. refl };
   }
 
   module _ (rest : VarSet) (after : List (Normal C)) (h : Visiting k n s rest τ before after) (v : ℕ) (there : has rest v ≡ true) where

@@ -1,12 +1,11 @@
 -- Taking bindings back, and the trail that tells how.
-use Rattle.std.proofs.Common.{◌≡◌, ℕ, zero, suc, ◌+◌, ◌-◌, ◌<◌, ◌≤◌, Bool, true, false, cond, not, ltb, List, [], ◌∷◌, length, get_or, take, set, sym, refl, ap, ◌∙◌, subst, ap₂, inl, inr, add-one, arith}
-use Rattle.std.proofs.lemmas.List.{get_or-set_same, get_or-set_other, take-set-le}
+use Rattle.std.proofs.Common.{◌≡◌, ℕ, ◌+◌, ◌<◌, ◌≤◌, Bool, true, false, cond, not, ltb, List, [], ◌∷◌, length, take, set, sym, refl, ap, ◌∙◌, subst, inl, inr, arith}
+use Rattle.std.proofs.lemmas.List.{take-set-le}
 use Rattle.std.proofs.lemmas.Bool.{cases_eq, lt-ltb, le-ltb, cond-true, cond-false, cases_Bool, both_ways}
 use Rattle.kinds.specs.Kinds.{Operations, Lawful}
 use Rattle.kinds.proofs.Laws.{cancel, cancel_right}
 use Rattle.terms.specs.declared.normal.Normal.{Normal}
-use Rattle.terms.specs.declared.sets.VarSet.{VarSet}
-use Rattle.terms.specs.Sets.{has, empty, Highest}
+use Rattle.terms.specs.Sets.{VarSet, has, Highest}
 use Rattle.terms.specs.NormalForms.{SameNormal, of_variable, joined}
 use Rattle.terms.proofs.SetFacts.{has_singleton, singleton_other}
 use Rattle.terms.proofs.Sums.{count_picks, count_most, count_none, count_more}
@@ -18,7 +17,7 @@ use Rattle.solving.specs.Substitutions.{Substitution, apply, SameSubstitution}
 use Rattle.solving.specs.Equations.{Every, Clears}
 use Rattle.solving.specs.SolvedForms.{Free, Solves, eliminated, binding}
 use Rattle.steps.specs.Rows.{images, EqualImages, Remains}
-use Rattle.steps.specs.Trails.{unbinding, unwound, remaining, bound_count, Descending, Tracing, Traced, Ended, latest_first, Undoable}
+use Rattle.steps.specs.Trails.{unbinding, unwound, remaining, bound_count, Descending, Tracing, Traced, Ended, Undoable}
 use Rattle.solving.proofs.Applying.{apply_inside}
 use Rattle.solving.proofs.Eliminating.{eliminated_vars, eliminated_out}
 use Rattle.solving.proofs.Solving.{solves_as, free_within, same_decide}
@@ -214,19 +213,3 @@ module _ {C : Type 0} (k : Operations C) (lawful : Lawful k) (n : ℕ) where
     solves = λ j l. (let z : j ≡ 0 = omega arith in rw z h);
     counts = λ j l. sym (count_none n _ (λ v b. ap (λ (z : Normal C). not (has z.vars v)) (e v b) ∙ ap not (has_singleton v)));
   }
-
-pub length_latest : (b : ℕ) (trail : List Binding) → length (latest_first b trail) ≡ b
-length_latest zero trail = refl
-length_latest (suc b) trail = ap suc (length_latest b trail)
-
--- writing past the first b bindings
-pub latest_set : (b i : ℕ) (trail : List Binding) (t : Binding) → b ≤ i → latest_first b (set trail i t) ≡ latest_first b trail
-latest_set zero i trail t le = refl
-latest_set (suc b) i trail t le = ap₂ (λ x xs. x ∷ xs) (get_or-set_other trail i b t _ (λ e. omega arith)) (latest_set b i trail t (omega arith))
-
-pub latest_push : (b : ℕ) (trail : List Binding) (t : Binding) → b < length trail → latest_first (b + 1) (set trail b t) ≡ t ∷ latest_first b trail
-latest_push b trail t l = rw add-one (ap₂ (λ x xs. x ∷ xs) (get_or-set_same trail b t _ l) (latest_set b b trail t (omega arith)))
-
-pub latest_pop : (b : ℕ) (trail : List Binding) → 0 < b
-    → latest_first b trail ≡ get_or trail (b - 1) (record { variable = 0; entry = 0; changed = empty }) ∷ latest_first (b - 1) trail
-latest_pop b trail l = let e : b ≡ suc (b - 1) = omega arith in ap (λ c. latest_first c trail) e

@@ -10,14 +10,12 @@
 --                                  first j entries, with as many bindings left as variables bound; ts is below top
 --   Traced k n ledger ts m σ       this with no binding of an entry from m on
 --   Ended m ts                     the latest binding, if any, is of an entry before m
---   latest_first b trail           the first b of an array of bindings, the latest first
 --   Undoable k n row row' t        how row' is taken back to row: it is row, unless a variable was bound; then
 --                                  unbinding it gives the images of row, and one variable more is bound
-use Rattle.std.specs.Prelude.{◌≡◌, ℕ, zero, suc, ◌+◌, ◌<◌, ◌≤◌, cond, not, List, [], ◌∷◌, length, take, nat_lt, slice_index_or}
+use Rattle.std.specs.Prelude.{◌≡◌, ℕ, ◌+◌, ◌<◌, ◌≤◌, cond, not, List, [], ◌∷◌, length, take, nat_lt}
 use Rattle.kinds.specs.Kinds.{Operations}
 use Rattle.terms.specs.declared.normal.Normal.{Normal}
-use Rattle.terms.specs.declared.sets.VarSet.{VarSet}
-use Rattle.terms.specs.Sets.{has, empty}
+use Rattle.terms.specs.Sets.{VarSet, has}
 use Rattle.terms.specs.Sums.{count}
 use Rattle.terms.specs.NormalForms.{of_variable, joined}
 use Rattle.steps.specs.declared.Binding.{Binding}
@@ -57,10 +55,6 @@ Traced k n ledger ts m σ = Tracing k n ledger ts m m σ
 abbrev pub Ended : ℕ → List Binding → Type 0
 Ended m [] = Unit {0}
 Ended m (t ∷ ts) = t.entry < m
-
-abbrev pub latest_first : ℕ → List Binding → List Binding
-latest_first zero trail = []
-latest_first (suc b) trail = slice_index_or trail b (record { variable = 0; entry = 0; changed = empty }) ∷ latest_first b trail
 
 abbrev pub Undoable : {C : Type 0} → Operations C → ℕ → List (Normal C) → List (Normal C) → Taken → Type 0
 Undoable k n row row' Follows = row' ≡ row

@@ -4,8 +4,8 @@ use lib.Bits.{bit_xor, xor_lt}
 use Rattle.std.proofs.lemmas.List.{get_or-set_same, get_or-set_other}
 use Rattle.std.proofs.lemmas.Bool.{cases_eq, eq-eqb, ne_eqb}
 use Rattle.kinds.specs.Kinds.{Operations, Laws, Lawful}
-use Rattle.kinds.specs.Digits.{differs}
-use Rattle.kinds.proofs.Digits.{differs_false}
+use Rattle.terms.specs.Sets.{differs}
+use Rattle.terms.proofs.SetFacts.{differs_false}
 use Rattle.kinds.proofs.Laws.{unit_right}
 use Rattle.terms.specs.declared.normal.Normal.{Normal}
 use Rattle.terms.specs.Sums.{gather}

@@ -1,5 +1,5 @@
 -- The terms of a table's nodes, node by node.
-use Rattle.std.proofs.Common.{◌≡◌, ℕ, zero, suc, ◌+◌, ◌<◌, ◌≤◌, List, [], ◌∷◌, ◌++◌, length, get_or, sym, refl, ap, ◌∙◌, subst, ap₂, inl, inr, add-zero, zero-add, arith}
+use Rattle.std.proofs.Common.{◌≡◌, ℕ, zero, suc, Some, None, ◌+◌, ◌<◌, ◌≤◌, List, [], ◌∷◌, ◌++◌, length, get_or, sym, refl, ap, ◌∙◌, subst, ap₂, inl, inr, add-zero, zero-add, arith}
 use Rattle.std.proofs.lemmas.List.{get_or_append_left, get_or_at, length_push}
 use Rattle.std.proofs.lemmas.Bool.{cases_lt}
 use Rattle.kinds.specs.Kinds.{Operations}
@@ -7,9 +7,10 @@ use Rattle.refusals.specs.declared.Refusal.{Refusal}
 use Rattle.terms.specs.declared.nodes.Node.{Node}
 use Rattle.terms.specs.declared.normal.Normal.{Normal}
 use Rattle.terms.specs.Terms.{Term, const, join, Within}
-use Rattle.terms.specs.NormalForms.{joined, normal}
+use Rattle.terms.specs.NormalForms.{of_constant, of_variable, joined, normal}
 use Rattle.tables.specs.Tables.{term_of, terms_after, term_at, NodeFault, form, variable, operand, Faultless}
-use Rattle.tables.specs.Calls.{leaf_of}
+use Rattle.terms.specs.declared.nodes.Content.TheVariants.{Constant, Variable, Join}
+use Rattle.terms.specs.Nodes.{content_by, content_of}
 
 -- what a node's freedom from faults says
 pub record Fine {C : Type 0} (n i : ℕ) (x : Node C) : Type 0 where
@@ -38,6 +39,63 @@ pub faultless_more : {C : Type 0} (m n : ℕ) (table : List (Node C)) → m ≤ 
 faultless_more m n table more h i l x e q (form f) = h i l x e q (form f)
 faultless_more m n table more h i l x e q (variable f v) = h i l x e q (variable f (omega arith))
 faultless_more m n table more h i l x e q (operand f o) = h i l x e q (operand f o)
+
+-- what is known of a node from what it is
+module _ {C : Type 0} (x : Node C) where
+  pub no_content : content_of x ≡ None → 2 < x.form
+  no_content h = go x.form h
+    where
+      go : (f : ℕ) → content_by x f ≡ None → 2 < f
+      go zero h = absurd (cc)
+      go (suc zero) h = absurd (cc)
+      go (suc (suc zero)) h = absurd (cc)
+      go (suc (suc (suc f))) h = omega arith
+
+  pub constant_content : (c : C) → content_of x ≡ Some (Constant c) → (x.form ≡ 0) × (x.constant ≡ c)
+  constant_content c h = go x.form h
+    where
+      go : (f : ℕ) → content_by x f ≡ Some (Constant c) → (f ≡ 0) × (x.constant ≡ c)
+      go zero h = (refl, cc)
+      go (suc zero) h = absurd (cc)
+      go (suc (suc zero)) h = absurd (cc)
+      go (suc (suc (suc f))) h = absurd (cc)
+
+  pub variable_content : (v : ℕ) → content_of x ≡ Some (Variable v) → (x.form ≡ 1) × (x.variable ≡ v)
+  variable_content v h = go x.form h
+    where
+      go : (f : ℕ) → content_by x f ≡ Some (Variable v) → (f ≡ 1) × (x.variable ≡ v)
+      go zero h = absurd (cc)
+      go (suc zero) h = (refl, cc)
+      go (suc (suc zero)) h = absurd (cc)
+      go (suc (suc (suc f))) h = absurd (cc)
+
+  pub join_content : (a b : ℕ) → content_of x ≡ Some (Join a b) → (x.form ≡ 2) × (x.left ≡ a) × (x.right ≡ b)
+  join_content a b h = go x.form h
+    where
+      go : (f : ℕ) → content_by x f ≡ Some (Join a b) → (f ≡ 2) × (x.left ≡ a) × (x.right ≡ b)
+      go zero h = absurd (cc)
+      go (suc zero) h = absurd (cc)
+      go (suc (suc zero)) h = (refl, cc, cc)
+      go (suc (suc (suc f))) h = absurd (cc)
+
+-- what a sound node says of what it is
+module _ {C : Type 0} (n i : ℕ) (table : List (Node C)) (sound : Faultless n table) (x : Node C) (l : i < length table) (e : x ≡ get_or table i x) where
+  pub low_variable : (v : ℕ) → content_of x ≡ Some (Variable v) → v < n
+  low_variable v h =
+      let q = variable_content x v h in
+      let low : x.variable < n = (fine_at n i table x sound l e).variable q.0 in
+      omega (arith, q.1)
+
+  pub low_join : (a b : ℕ) → content_of x ≡ Some (Join a b) → (a < i) × (b < i)
+  low_join a b h =
+      let q = join_content x a b h in
+      let s = fine_at n i table x sound l e in
+      let left : x.left < i = s.left q.0 in
+      let right : x.right < i = s.right q.0 in
+      (omega (arith, q.1), omega (arith, q.2))
+
+  pub some_content : content_of x ≡ None → ⊥
+  some_content h = omega (arith, no_content x h, (fine_at n i table x sound l e).form)
 
 module _ {C : Type 0} (k : Operations C) where
   abbrev d : Term C
@@ -84,16 +142,18 @@ module _ {C : Type 0} (k : Operations C) where
         let at = terms_at [] table i x l e (λ g. let two : x.form ≡ 2 = omega (arith, s.form) in (omega (arith, s.left two), omega (arith, s.right two))) in
         rw zero-add at at
 
-    leaf_value : (x : Node C) (all : List (Term C)) (f : ℕ) → f < 2 → normal k (term_of k all x f) ≡ leaf_of k x f
-    leaf_value x all zero l = refl
-    leaf_value x all (suc zero) l = refl
-    leaf_value x all (suc (suc f)) l = absurd (omega arith)
+    -- the normal form of a node, by what the node is
+    by_form : (i : ℕ) (x : Node C) (f : ℕ) → i < length table → x ≡ get_or table i x → x.form ≡ f → val i ≡ normal k (term_of k (terms_after k [] table) x f)
+    by_form i x f l e h = ap (normal k) (term_is i x l e) ∙ ap (λ m. normal k (term_of k (terms_after k [] table) x m)) h
 
-    pub val_leaf : (i : ℕ) (x : Node C) → i < length table → x ≡ get_or table i x → x.form < 2 → val i ≡ leaf_of k x x.form
-    val_leaf i x l e f = ap (normal k) (term_is i x l e) ∙ leaf_value x (terms_after k [] table) x.form f
+    pub val_constant : (i : ℕ) (x : Node C) (c : C) → i < length table → x ≡ get_or table i x → content_of x ≡ Some (Constant c) → val i ≡ of_constant c
+    val_constant i x c l e h = let q = constant_content x c h in by_form i x 0 l e q.0 ∙ ap of_constant q.1
 
-    pub val_join : (i : ℕ) (x : Node C) → i < length table → x ≡ get_or table i x → x.form ≡ 2 → val i ≡ joined k (val x.left) (val x.right)
-    val_join i x l e f = ap (normal k) (term_is i x l e) ∙ ap (λ m. normal k (term_of k (terms_after k [] table) x m)) f
+    pub val_variable : (i : ℕ) (x : Node C) (v : ℕ) → i < length table → x ≡ get_or table i x → content_of x ≡ Some (Variable v) → val i ≡ of_variable k v
+    val_variable i x v l e h = let q = variable_content x v h in by_form i x 1 l e q.0 ∙ ap (of_variable k) q.1
+
+    pub val_join : (i : ℕ) (x : Node C) (a b : ℕ) → i < length table → x ≡ get_or table i x → content_of x ≡ Some (Join a b) → val i ≡ joined k (val a) (val b)
+    val_join i x a b l e h = let q = join_content x a b h in by_form i x 2 l e q.0 ∙ ap₂ (λ (v w : ℕ). joined k (val v) (val w)) q.1 q.2
 
     -- the variables of the terms are below n
     within_of : (all : List (Term C)) (i : ℕ) (x : Node C) (f : ℕ) → (f ≡ 1 → x.variable < n) → (1 < f → Within n (get_or all x.left d) × Within n (get_or all x.right d)) → Within n (term_of k all x f)

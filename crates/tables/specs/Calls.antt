@@ -2,11 +2,13 @@
 --   Refused n i q         the refusal of the input i for n variables: a size out of range first, then the input's own
 --   Outcome n i P r       r is a value with P where the size is in range and the input sound, else the refusal
 --   input table l r room  an input by its parts
+--   input_of s room       the input of the sides s
+--   left_term k s, right_term k s   the terms of the sides s
 --   Cleared n before after  the first n bytes are zero, the others as before
 --   PastMemory n i        the checks of size, table and memory are passed
 --   Worked Past n before after   the first n bytes are zero and the others as before where Past holds, else all are as before
 --   byte_set w i          byte i of w is not zero
-use Rattle.std.specs.Prelude.{◌≡◌, ℕ, zero, suc, ◌<◌, ◌≤◌, Bool, not, List, length, Ok, Err, Result, ◌==◌, bit_xor, slice_index, slice_set}
+use Rattle.std.specs.Prelude.{◌≡◌, ℕ, ◌<◌, ◌≤◌, Bool, not, List, length, Ok, Err, Result, ◌==◌, bit_xor, slice_index, slice_set}
 use Rattle.kinds.specs.Kinds.{Operations}
 use Rattle.refusals.specs.declared.Refusal.{Refusal}
 use Rattle.refusals.specs.declared.Refusal.TheVariants.{BadSize}
@@ -14,7 +16,9 @@ use Rattle.terms.specs.declared.nodes.Node.{Node}
 use Rattle.terms.specs.Limits.{InRange}
 use Rattle.terms.specs.declared.normal.Normal.{Normal}
 use Rattle.terms.specs.Sums.{gather}
-use Rattle.terms.specs.NormalForms.{of_constant, of_variable, zero_form, joined, normal}
+use Rattle.terms.specs.Terms.{Term}
+use Rattle.terms.specs.NormalForms.{zero_form, joined, normal}
+use Rattle.tables.specs.declared.Sides.{Sides}
 use Rattle.tables.specs.Tables.{Input, term_at, Sized, Sound, Unsound}
 
 pub data Refused {C : Type 0} (n : ℕ) (i : Input C) : Refusal → Type 0 where
@@ -27,6 +31,15 @@ Outcome n i P (Err q) = Refused n i q
 
 abbrev pub input : {C : Type 0} → List (Node C) → ℕ → ℕ → ℕ → Input C
 input table l r room = record { table = table; left = l; right = r; room = room }
+
+abbrev pub input_of : {C : Type 0} → Sides C → ℕ → Input C
+input_of s room = input s.table.now s.left s.right room
+
+abbrev pub left_term : {C : Type 0} → Operations C → Sides C → Term C
+left_term k s = term_at k s.table.now s.left
+
+abbrev pub right_term : {C : Type 0} → Operations C → Sides C → Term C
+right_term k s = term_at k s.table.now s.right
 
 pub record Cleared (n : ℕ) (before after : List ℕ) : Type 0 where
   pub length_kept : length after ≡ length before
@@ -51,8 +64,3 @@ flipped w i = slice_set w i (bit_xor (slice_index w i) 1)
 -- the join of the normal forms of the nodes whose byte is set
 abbrev pub picked_sum : {C : Type 0} → Operations C → List (Node C) → List ℕ → Normal C
 picked_sum k table w = gather (zero_form k) (joined k) (λ i. normal k (term_at k table i)) (length table) (byte_set w)
-
--- the normal form of a node that is no join: a constant, or else a variable
-abbrev pub leaf_of : {C : Type 0} → Operations C → Node C → ℕ → Normal C
-leaf_of k x zero = of_constant x.constant
-leaf_of k x (suc f) = of_variable k x.variable

@@ -3,7 +3,7 @@ use Rattle.std.proofs.Common.{◌≡◌, ℕ, zero, suc, ◌+◌, ◌<◌, ◌�
 use mathlib.Core.Bool.{false≢true}
 use Rattle.std.proofs.lemmas.Bool.{cases_eq}
 use Rattle.kinds.specs.Kinds.{Laws}
-use Rattle.kinds.specs.Digits.{differs}
+use Rattle.terms.specs.Sets.{differs}
 use Rattle.kinds.proofs.Laws.{unit_right, interchange}
 use Rattle.terms.specs.Sums.{gather, count}
 

@@ -1,18 +1,18 @@
 // The nodes of a term table.
 ghost use Rattle.std.specs.Prelude.{◌≡◌};
-ghost use Rattle.terms.specs.Nodes.{constant_node, variable_node, join_node};
+ghost use Rattle.terms.specs.Nodes.{constant_node, variable_node, join_node, content_of};
 
 use kinds::Kind;
 
-// The forms of a node.
+// The forms of a node, as the format of tables numbers them.
 pub const CONSTANT: u8 = 0;
 
 pub const VARIABLE: u8 = 1;
 
 pub const JOIN: u8 = 2;
 
-// A node: a constant, a variable, or the join of two lower nodes of its table, as `form` says. Fields that a form does
-// not use are ignored.
+// A node as a table holds it. `form` says what it is; the fields that its form does not use are ignored. The form is a
+// number, since the format of tables fixes its byte, and a byte that is no form is what a table can be refused for.
 #[derive(Clone, Copy)]
 pub struct Node<K> {
     pub form: u8,
@@ -22,7 +22,30 @@ pub struct Node<K> {
     pub constant: K,
 }
 
-// The nodes of each form, with their unused fields zero.
+// What a node is: a constant, a variable by its number, or the join of two nodes of its table by theirs.
+#[derive(Clone, Copy)]
+pub enum Content<K> {
+    Constant(K),
+    Variable(usize),
+    Join(usize, usize),
+}
+
+impl<K: Copy> Node<K> {
+    // What the node is, unless its form is none of the three.
+    pub fn content(self) -> Option<Content<K>>
+        ensures { result ≡ content_of self }
+    {
+        match self.form {
+            CONSTANT => Some(Content::Constant(self.constant)),
+            VARIABLE => Some(Content::Variable(self.variable as usize)),
+            JOIN => Some(Content::Join(self.left as usize, self.right as usize)),
+            _ => None,
+        }
+    }
+}
+
+// The nodes of each form, with their unused fields zero. Named by the form, since a number alone does not say that it is a
+// variable's.
 impl<K: Kind> Node<K> {
     pub fn of_constant(constant: K) -> Node<K>
         ensures { result ≡ constant_node constant }

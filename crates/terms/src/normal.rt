@@ -14,6 +14,7 @@ pub struct Normal<K> {
 }
 
 impl<K: Kind> Normal<K> {
+    // Named, as the next: `From` of a number alone would not say that it is a variable's.
     pub fn of_constant(constant: K) -> Normal<K>
         ensures { result ≡ of_constant constant }
     {
@@ -49,9 +50,10 @@ impl<K: Kind> Normal<K> {
         }
     }
 
+    // By the kind's sameness of constants, which a derived `==` would not ask.
     pub fn same(self, other: Normal<K>) -> bool
         ensures { Decides result (SameNormal K.ops self other) }
     {
-        self.vars.same(other.vars) && self.constant.same(&other.constant)
+        self.vars == other.vars && self.constant.same(&other.constant)
     }
 }

@@ -15,16 +15,13 @@ pub front_push : {line : List ℕ} {a e m s : ℕ} {t : Symbol} {ts : List Symbo
 front_push {s = s} {t = t} none n = more s t n none
 front_push (more i u k f) n = more i u k (front_push f n)
 
-none_some : {x : ℕ × Symbol × ℕ} → ◌≡◌ {A = Found} (Ok None) (Ok (Some x)) → ⊥
-none_some e = let z : ◌≡◌ {A = ℕ} 0 1 = cc in omega arith
-
 same_found : {x y : ℕ × Symbol × ℕ} → ◌≡◌ {A = Found} (Ok (Some x)) (Ok (Some y)) → x ≡ y
 same_found e = cc
 
 front_only : {line : List ℕ} {a e f : ℕ} {ts us : List Symbol} → Front line a ts e → Next line e (Ok None) → Front line a us f → Next line f (Ok None) → ts ≡ us
 front_only none x none y = refl
-front_only none x (more s t n g) y = absurd (none_some (next_only x n))
-front_only (more s t n g) x none y = absurd (none_some (next_only y n))
+front_only none x (more s t n g) y = cc (next_only x n)
+front_only (more s t n g) x none y = cc (next_only y n)
 front_only {line} (more s t n g) x (more {e = f} {ts = us} i u k h) y =
     let q = same_found (next_only n k) in
     let v : t ≡ u = ap (λ z. z.1) q in

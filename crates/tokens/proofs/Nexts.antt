@@ -3,13 +3,14 @@
 --   next_is      what comes next is what is computed
 --   next_only    only one thing comes next
 --   next_ahead   a token that comes next stands from the place on, within the line
-use Rattle.std.proofs.Common.{◌≡◌, ℕ, ◌+◌, ◌<◌, ◌≤◌, Bool, true, false, cond, eqb, ltb, leb, List, length, get_or, Some, Ok, Err, sym, refl, ap, ◌∙◌, subst, arith, ltb-false, ltb-true, le-ltb, lt-ltb, eq-eqb, ne_eqb, eqb-true, le-leb, leb-true}
-use borrow.Author.Tests.{eqb-false, lt-leb}
-use Rattle.std.proofs.lemmas.Bool.{and_parts, and_from, and_left, and_right}
+use Rattle.std.proofs.Common.{◌≡◌, ℕ, ◌+◌, ◌<◌, ◌≤◌, Bool, true, false, cond, eqb, ltb, List, length, get_or, Some, Ok, Err, sym, refl, ap, ◌∙◌, subst, arith, ltb-false, ltb-true, le-ltb, lt-ltb, eq-eqb, ne_eqb, eqb-true}
+use borrow.Author.Tests.{eqb-false}
+use Rattle.std.proofs.lemmas.Bool.Decides.{nat_tests}
 use Rattle.refusals.specs.declared.Refusal.{Refusal}
 use Rattle.refusals.specs.declared.Refusal.TheVariants.{NoToken, WrongLength}
 use Rattle.grammar.specs.Grammar.{Symbol, variable, name, block, nought, xor, equals, opening, closing}
-use Rattle.tokens.specs.Limits.{longest_word, block_digits}
+use Rattle.words.specs.Limits.{longest_word}
+use Rattle.tokens.specs.Limits.{block_digits}
 use Rattle.tokens.specs.Classes.{between, capital, small, hex, in_variable, in_name, space}
 use Rattle.tokens.specs.Tokens.{span, Spaces, Run, Sign, Stray, TokenAt, is_sign, is_variable, is_name, is_block, FaultAt, no_token, long_variable, long_name, wrong_block, Found, Next, blank, token, fault}
 use Rattle.tokens.specs.Next.{run_end, sign_at, word_at, block_at, token_at, next_from, next}
@@ -33,17 +34,12 @@ module _ (line : List ℕ) (a s : ℕ) (r : Run space line a s) (w : s < length 
   sign_right : (t : Symbol) → Sign (get_or line s 0) t → Next line a (sign_at s t)
   sign_right t h = token s t (s + 1) r.stretch (is_sign t w h)
 
-  variable_right : capital (get_or line s 0) ≡ true → Next line a (word_at line s (run_end in_variable line (s + 1)) variable)
-  variable_right h =
-      let e = run_end in_variable line (s + 1) in
-      let x = run_from in_variable line (s + 1) (omega arith) in
-      by_test (Next line a) (ltb (s + longest_word) e) (λ l. fault s (WrongLength s) r.stretch (long_variable e h x (ltb-true _ _ l))) (λ l. token s (variable (span line s e)) e r.stretch (is_variable e h x (ltb-false _ _ l)))
-
-  name_right : small (get_or line s 0) ≡ true → Next line a (word_at line s (run_end in_name line (s + 1)) name)
-  name_right h =
-      let e = run_end in_name line (s + 1) in
-      let x = run_from in_name line (s + 1) (omega arith) in
-      by_test (Next line a) (ltb (s + longest_word) e) (λ l. fault s (WrongLength s) r.stretch (long_name e h x (ltb-true _ _ l))) (λ l. token s (name (span line s e)) e r.stretch (is_name e h x (ltb-false _ _ l)))
+  -- a word, by what it is where it fits and where it is too long
+  word_right : {p : ℕ → Bool} (t : List ℕ → Symbol) → ((e : ℕ) → Run p line (s + 1) e → e ≤ s + longest_word → TokenAt line s (t (span line s e)) e) → ((e : ℕ) → Run p line (s + 1) e → s + longest_word < e → FaultAt line s (WrongLength s)) → Next line a (word_at line s (run_end p line (s + 1)) t)
+  word_right {p} t fits long =
+      let e = run_end p line (s + 1) in
+      let x = run_from p line (s + 1) (omega arith) in
+      by_test (Next line a) (ltb (s + longest_word) e) (λ l. fault s (WrongLength s) r.stretch (long e x (ltb-true _ _ l))) (λ l. token s _ e r.stretch (fits e x (ltb-false _ _ l)))
 
   block_right : get_or line s 0 ≡ 35 → Next line a (block_at line s (run_end hex line (s + 1)))
   block_right h =
@@ -60,8 +56,8 @@ module _ (line : List ℕ) (a s : ℕ) (r : Run space line a s) (w : s < length 
       by_test N (eqb b 40) (λ h. sign_right opening (eqb-true b 40 h)) (λ o.
       by_test N (eqb b 41) (λ h. sign_right closing (eqb-true b 41 h)) (λ c.
       by_test N (eqb b 48) (λ h. sign_right nought (eqb-true b 48 h)) (λ n.
-      by_test N (capital b) variable_right (λ l.
-      by_test N (small b) name_right (λ m.
+      by_test N (capital b) (λ h. word_right variable (λ e. is_variable e h) (λ e. long_variable e h)) (λ l.
+      by_test N (small b) (λ h. word_right name (λ e. is_name e h) (λ e. long_name e h)) (λ m.
       by_test N (eqb b 35) (λ h. block_right (eqb-true b 35 h)) (λ k.
       fault s (NoToken s) r.stretch (no_token w (record { no_space = r.longest w; no_sign = no_sign_of b (eqb-false b 94 x) (eqb-false b 61 q) (eqb-false b 40 o) (eqb-false b 41 c) (eqb-false b 48 n); no_capital = l; no_small = m; no_hash = eqb-false b 35 k }))))))))))
 
@@ -72,17 +68,14 @@ next_right line a w =
     by_test (Next line a) (eqb s (length line)) (λ h. blank (subst (Spaces line a) (eqb-true s (length line) h) r.stretch)) (λ h. at_right line a s r (let n = eqb-false s (length line) h in omega (arith, r.stretch.within)))
 
 -- the ranges of the letters
-pub in_range : (low high b : ℕ) → between low high b ≡ true → (low ≤ b) × (b ≤ high)
-in_range low high b h = let p = and_parts (leb low b) (leb b high) h in (leb-true low b p.0, leb-true b high p.1)
-
 pub range_in : (low high b : ℕ) → low ≤ b → b ≤ high → between low high b ≡ true
-range_in low high b l h = and_from (leb low b) (leb b high) (le-leb low b l) (le-leb b high h)
+range_in low high b l h = grind (arith, nat_tests)
 
 pub below_range : (low high b : ℕ) → b < low → between low high b ≡ false
-below_range low high b l = and_left (leb low b) (leb b high) (lt-leb low b l)
+below_range low high b l = grind (arith, nat_tests)
 
 pub above_range : (low high b : ℕ) → high < b → between low high b ≡ false
-above_range low high b h = and_right (leb low b) (leb b high) (lt-leb b high h)
+above_range low high b h = grind (arith, nat_tests)
 
 -- what begins a token is no space
 sign_no_space : (b : ℕ) (t : Symbol) → Sign b t → space b ≡ false
@@ -96,10 +89,10 @@ sign_no_space b opening h = ap space h
 sign_no_space b closing h = ap space h
 
 capital_no_space : (b : ℕ) → capital b ≡ true → space b ≡ false
-capital_no_space b h = let l = in_range 65 90 b h in ne_eqb b 32 (λ q. omega arith)
+capital_no_space b h = grind (arith, nat_tests)
 
 small_no_space : (b : ℕ) → small b ≡ true → space b ≡ false
-small_no_space b h = let l = in_range 97 122 b h in ne_eqb b 32 (λ q. omega arith)
+small_no_space b h = grind (arith, nat_tests)
 
 -- what is computed at a place goes by the byte there
 module _ (line : List ℕ) (s b : ℕ) where
@@ -114,18 +107,14 @@ module _ (line : List ℕ) (s b : ℕ) where
   at_sign closing h = ap (token_at line s) h
 
   at_capital : capital b ≡ true → token_at line s b ≡ word_at line s (run_end in_variable line (s + 1)) variable
-  at_capital h =
-      let l = in_range 65 90 b h in
-      rw (ne_eqb b 94 (λ q. omega arith), ne_eqb b 61 (λ q. omega arith), ne_eqb b 40 (λ q. omega arith), ne_eqb b 41 (λ q. omega arith), ne_eqb b 48 (λ q. omega arith), h)
+  at_capital h = grind (arith, nat_tests)
 
   at_small : small b ≡ true → token_at line s b ≡ word_at line s (run_end in_name line (s + 1)) name
-  at_small h =
-      let l = in_range 97 122 b h in
-      rw (ne_eqb b 94 (λ q. omega arith), ne_eqb b 61 (λ q. omega arith), ne_eqb b 40 (λ q. omega arith), ne_eqb b 41 (λ q. omega arith), ne_eqb b 48 (λ q. omega arith), above_range 65 90 b (omega arith), h)
+  at_small h = grind (arith, nat_tests)
 
   at_stray : Stray b → token_at line s b ≡ Err (NoToken s)
   at_stray x =
-      rw (ne_eqb b 94 (x.no_sign xor), ne_eqb b 61 (x.no_sign equals), ne_eqb b 40 (x.no_sign opening), ne_eqb b 41 (x.no_sign closing), ne_eqb b 48 (x.no_sign nought), x.no_capital, x.no_small, ne_eqb b 35 x.no_hash)
+      grind (arith, nat_tests, x.no_sign xor, x.no_sign equals, x.no_sign opening, x.no_sign closing, x.no_sign nought)
 
 module _ {line : List ℕ} {s : ℕ} where
   word_fits : {p : ℕ → Bool} (e : ℕ) (t : List ℕ → Symbol) → Run p line (s + 1) e → e ≤ s + longest_word → word_at line s (run_end p line (s + 1)) t ≡ Ok (Some (s, t (span line s e), e))

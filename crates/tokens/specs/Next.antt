@@ -1,25 +1,18 @@
 -- What the code works with: what comes next in a line, computed. In the subject's words it is said by Next in Tokens.
---   in_class c b     the class c of the code has the byte b
 --   run_end p line a   where the run from a on of bytes that pass p ends
 --   token_at line s b  what begins with the byte b at s
 --   next line a      what comes next from a on
 --   Ahead line a r   a token that comes next stands from a on, within the line
-use Rattle.std.specs.Prelude.{ℕ, ◌+◌, ◌<◌, ◌≤◌, Bool, cond, List, length, drop, Some, None, Ok, Err, Option, Result, ◌==◌, nat_lt, slice_index}
+use Rattle.std.specs.Prelude.{ℕ, ◌+◌, ◌<◌, ◌≤◌, Bool, cond, List, length, drop, Some, None, Ok, Err, Option, Result, IfOk, IfSome, ◌==◌, nat_lt, slice_index}
 use Rattle.std.specs.List.{prefix_len}
 use Rattle.refusals.specs.declared.Refusal.{Refusal}
 use Rattle.refusals.specs.declared.Refusal.TheVariants.{NoToken, WrongLength}
 use Rattle.grammar.specs.Grammar.{Symbol, variable, name, block, nought, xor, equals, opening, closing}
-use Rattle.tokens.specs.declared.Class.{Class}
-use Rattle.tokens.specs.declared.Class.TheVariants.{Capital, Small, Hex}
 use Rattle.tokens.specs.declared.Lexeme.{Lexeme}
-use Rattle.tokens.specs.Limits.{longest_word, block_digits}
+use Rattle.words.specs.Limits.{longest_word}
+use Rattle.tokens.specs.Limits.{block_digits}
 use Rattle.tokens.specs.Classes.{capital, small, hex, in_variable, in_name, space}
 use Rattle.tokens.specs.Tokens.{Found, span}
-
-abbrev pub in_class : Class → ℕ → Bool
-in_class Capital = in_variable
-in_class Small = in_name
-in_class Hex = hex
 
 abbrev pub run_end : (ℕ → Bool) → List ℕ → ℕ → ℕ
 run_end p line a = a + prefix_len p (drop a line)
@@ -43,6 +36,4 @@ abbrev pub next : List ℕ → ℕ → Found
 next line a = next_from line (run_end space line a)
 
 abbrev pub Ahead : List ℕ → ℕ → Result (Option Lexeme) Refusal → Type 0
-Ahead line a (Ok None) = Unit {0}
-Ahead line a (Ok (Some l)) = (a ≤ l.place) × (l.place < l.end) × (l.end ≤ length line)
-Ahead line a (Err q) = Unit {0}
+Ahead line a r = IfOk r (λ o. IfSome o (λ l. (a ≤ l.place) × (l.place < l.end) × (l.end ≤ length line)))

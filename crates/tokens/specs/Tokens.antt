@@ -20,7 +20,8 @@ use Rattle.grammar.specs.Grammar.{Symbol, variable, name, block, nought, xor, eq
 use Rattle.tokens.specs.declared.Token.{Token}
 use Rattle.tokens.specs.declared.Token.TheVariants.{Variable, Name, Block, Zero, Xor, Equals, Open, Close}
 use Rattle.tokens.specs.declared.Lexeme.{Lexeme}
-use Rattle.tokens.specs.Limits.{longest_word, block_digits}
+use Rattle.words.specs.Limits.{longest_word}
+use Rattle.tokens.specs.Limits.{block_digits}
 use Rattle.tokens.specs.Classes.{capital, small, hex, in_variable, in_name, space}
 
 abbrev pub span : List ℕ → ℕ → ℕ → List ℕ

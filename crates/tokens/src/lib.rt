@@ -4,20 +4,21 @@
 // tokens. Which tokens make an equation is the grammar's matter.
 #![tactic(auto)]
 
-ghost use Rattle.std.specs.Prelude.{◌≡◌, ◌≤◌, length};
-ghost use Rattle.tokens.specs.Classes.{space};
-ghost use Rattle.tokens.specs.Tokens.{Run, Next, erased};
-ghost use Rattle.tokens.specs.Next.{in_class, next, Ahead};
+ghost use Rattle.std.specs.Prelude.{◌≡◌, ℕ, ◌+◌, ◌<◌, ◌≤◌, Bool, length, OnOk, IfOk, OnErr, IfErr};
+ghost use Rattle.std.specs.Iterator.{ActsAsAt};
+ghost use Rattle.words.specs.Limits.{longest_word};
+ghost use Rattle.tokens.specs.Classes.{space, in_variable, in_name, hex};
+ghost use Rattle.tokens.specs.Tokens.{Run, Next, span, erased};
+ghost use Rattle.tokens.specs.Next.{next, Ahead};
 
 use refusals::Refusal;
+use words::dictionary::LONGEST_WORD;
 
-// A variable or a name has at most this many bytes, and a block exactly this many digits.
-const LONGEST_WORD: usize = 8;
-
+// A block has exactly this many digits; that a variable or a name is no longer than a word may be is the words' matter.
 const BLOCK_DIGITS: usize = 32;
 
 // A word or a block borrows its bytes from the line; a block's are its digits, without the `#`.
-#[derive(Clone, Copy, Drop)]
+#[derive(Clone, Copy, Drop, Debug, PartialEq, Eq)]
 pub enum Token<'a> {
     Variable(&'a [u8]),
     Name(&'a [u8]),
@@ -30,62 +31,65 @@ pub enum Token<'a> {
 }
 
 // A token with the place of its first byte and the place after its last.
-#[derive(Clone, Copy, Drop)]
+#[derive(Clone, Copy, Drop, Debug, PartialEq, Eq)]
 pub struct Lexeme<'a> {
     pub place: usize,
     pub token: Token<'a>,
     pub end: usize,
 }
 
-// What may follow in a variable, in a name, and after the `#` of a block.
-#[derive(Clone, Copy)]
-enum Class {
-    Capital,
-    Small,
-    Hex,
+// Whether the byte is a space.
+fn is_space(byte: &u8) -> bool
+    ensures { result ≡ space byte.now }
+{
+    *byte as char == ' '
 }
 
-fn of_class(class: Class, byte: u8) -> bool
-    ensures { result ≡ in_class class byte }
+// Whether the byte may follow in a variable.
+fn in_variable(byte: &u8) -> bool
+    ensures { result ≡ in_variable byte.now }
 {
-    match class {
-        Class::Capital => match byte as char {
-            'A'..='Z' | '0'..='9' => true,
-            _ => false,
-        },
-        Class::Small => match byte as char {
-            'a'..='z' | '0'..='9' => true,
-            _ => false,
-        },
-        Class::Hex => match byte as char {
-            '0'..='9' | 'a'..='f' => true,
-            _ => false,
-        },
-    }
+    matches!(*byte as char, 'A'..='Z' | '0'..='9')
 }
 
-// Where the run of bytes of the class that begins at `from` ends.
-fn run_end(line: &[u8], from: usize, class: Class) -> usize
-    requires { from ≤ length line.now }
-    ensures { Run (in_class class) line.now from result }
+// Whether the byte may follow in a name.
+fn in_name(byte: &u8) -> bool
+    ensures { result ≡ in_name byte.now }
 {
-    let mut at = from;
-    while at < line.len() && of_class(class, line[at]) {
-        at += 1;
-    }
-    at
+    matches!(*byte as char, 'a'..='z' | '0'..='9')
 }
 
-// Where the spaces that begin at `from` end.
-fn skip_spaces(line: &[u8], from: usize) -> usize
-    requires { from ≤ length line.now }
-    ensures { Run space line.now from result }
+// Whether the byte is a digit of a block.
+fn is_hex(byte: &u8) -> bool
+    ensures { result ≡ hex byte.now }
 {
-    let mut at = from;
-    while at < line.len() && line[at] as char == ' ' {
-        at += 1;
+    matches!(*byte as char, '0'..='9' | 'a'..='f')
+}
+
+// Where the run of bytes that pass ends, from `from` on.
+fn run_end<F: FnMut(&u8) -> bool>(line: &[u8], from: usize, passes: F) -> usize
+    requires within { from ≤ length line.now }
+    requires callable { (test : F) (byte : _) → F.pre test byte }
+    ensures run { (p : ℕ → Bool) → ActsAsAt F.FnMut passes p → Run p line.now from result }
+    ensures onward { from ≤ result }
+    ensures inside { result ≤ length line.now }
+{
+    from + line[from..].iter().copied().take_while(passes).count()
+}
+
+// The bytes from `start` to `end`, refused where they are more than a word has.
+fn word(line: &[u8], start: usize, end: usize) -> Result<&[u8], Refusal>
+    requires ordered { start ≤ end }
+    requires within { end ≤ length line.now }
+    ensures short { OnOk result (end ≤ start + longest_word) }
+    ensures bytes { IfOk result (λ w. w.now ≡ span line.now start end) }
+    ensures long { OnErr result (start + longest_word < end) }
+    ensures refused { IfErr result (λ q. q ≡ Refusal.WrongLength start) }
+{
+    if end - start > LONGEST_WORD {
+        return Err(Refusal::WrongLength(start));
     }
-    at
+    Ok(&line[start..end])
 }
 
 // The next token from `at` on, or none where only spaces are left. A reader calls this with the end of the token before,
@@ -96,7 +100,7 @@ pub fn next_token<'a>(line: &'a [u8], at: usize) -> Result<Option<Lexeme<'a>>, R
     ensures value { erased result ≡ next line.now at }
     ensures bound { Ahead line.now at result }
 {
-    let start = skip_spaces(line, at);
+    let start = run_end(line, at, is_space);
     if start == line.len() {
         return Ok(None);
     }
@@ -107,22 +111,16 @@ pub fn next_token<'a>(line: &'a [u8], at: usize) -> Result<Option<Lexeme<'a>>, R
         ')' => (Token::Close, start + 1),
         '0' => (Token::Zero, start + 1),
         'A'..='Z' => {
-            let end = run_end(line, start + 1, Class::Capital);
-            if end - start > LONGEST_WORD {
-                return Err(Refusal::WrongLength(start));
-            }
-            (Token::Variable(&line[start..end]), end)
+            let end = run_end(line, start + 1, in_variable);
+            (Token::Variable(word(line, start, end)?), end)
         }
         'a'..='z' => {
-            let end = run_end(line, start + 1, Class::Small);
-            if end - start > LONGEST_WORD {
-                return Err(Refusal::WrongLength(start));
-            }
-            (Token::Name(&line[start..end]), end)
+            let end = run_end(line, start + 1, in_name);
+            (Token::Name(word(line, start, end)?), end)
         }
         '#' => {
             let digits = start + 1;
-            let end = run_end(line, digits, Class::Hex);
+            let end = run_end(line, digits, is_hex);
             if end - digits != BLOCK_DIGITS {
                 return Err(Refusal::WrongLength(start));
             }

@@ -25,6 +25,7 @@ impl Kind for Single {
         self
     }
 
+    // there is no other
     fn same(&self, _other: &Single) -> bool {
         true
     }
@@ -51,6 +52,7 @@ impl Kind for LowByte {
         }
     }
 
+    // coarser than `==`, which is what this kind is for
     fn same(&self, other: &LowByte) -> bool {
         self.word % 256 == other.word % 256
     }

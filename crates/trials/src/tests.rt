@@ -8,27 +8,19 @@ use rows::solve_all;
 use session::Session;
 use std::test::Fail;
 use steps::verdict::Verdict;
-use tables::equivalent;
+use tables::Sides;
 use terms::nodes::Node;
 use terms::normal::Normal;
 
-// Whether X0 ^ c is equivalent to d ^ X0, that is, whether c is the same as d.
-macro_rules! masked {
-    ($c:expr, $d:expr) => {
-        equivalent(
-            1,
-            &[
-                Node::of_variable(0),
-                Node::of_constant($c),
-                Node::of_constant($d),
-                Node::of_join(0, 1),
-                Node::of_join(2, 0),
-            ],
-            3,
-            4,
-            &mut [9; 5],
-        )
-    };
+// The table in which node 3 is X0 ^ c and node 4 is d ^ X0: they are equivalent where c is the same as d.
+fn masked<K: Kind>(c: K, d: K) -> [Node<K>; 5] {
+    [
+        Node::of_variable(0),
+        Node::of_constant(c),
+        Node::of_constant(d),
+        Node::of_join(0, 1),
+        Node::of_join(2, 0),
+    ]
 }
 
 #[test]
@@ -41,8 +33,18 @@ fn pairs_are_the_same_where_both_halves_are(rt: HostRuntime) -> Result<(), Fail>
         first: Names::one(0),
         second: LowByte { word: 2 },
     };
-    assert!(rt; matches!(masked!(one, one), Ok(true)));
-    assert!(rt; matches!(masked!(one, half), Ok(false)));
+    assert!(rt;
+        matches!(
+            Sides::new(&masked(one, one), 3, 4).equivalent(1, &mut [9; 5]),
+            Ok(true)
+        )
+    );
+    assert!(rt;
+        matches!(
+            Sides::new(&masked(one, half), 3, 4).equivalent(1, &mut [9; 5]),
+            Ok(false)
+        )
+    );
     Ok(())
 }
 
@@ -55,12 +57,17 @@ fn a_single_constant_never_contradicts(rt: HostRuntime) {
     let mut session = Session::new(&mut slots, &mut ledger);
     let mut work = [0; 2];
     assert!(rt; session.open(1).is_ok());
-    assert!(rt; session.post(&table, 1, 0, &mut work).is_ok());
-    assert!(rt; matches!(session.query(&table, 0, 0, &mut work), Ok(Verdict::Forced)));
-    assert!(rt; session.post(&table, 0, 1, &mut work).is_ok());
+    assert!(rt; session.post(Sides::new(&table, 1, 0), &mut work).is_ok());
     assert!(rt;
         matches!(
-            session.post(&table, 0, 0, &mut work),
+            session.query(Sides::new(&table, 0, 0), &mut work),
+            Ok(Verdict::Forced)
+        )
+    );
+    assert!(rt; session.post(Sides::new(&table, 0, 1), &mut work).is_ok());
+    assert!(rt;
+        matches!(
+            session.post(Sides::new(&table, 0, 0), &mut work),
             Err(Refusal::LedgerFull)
         )
     );
@@ -80,11 +87,16 @@ fn a_session_goes_by_sameness(rt: HostRuntime) {
     let mut session = Session::new(&mut slots, &mut ledger);
     let mut work = [0; 4];
     assert!(rt; session.open(1).is_ok());
-    assert!(rt; session.post(&table, 0, 1, &mut work).is_ok());
-    assert!(rt; matches!(session.query(&table, 0, 2, &mut work), Ok(Verdict::Forced)));
+    assert!(rt; session.post(Sides::new(&table, 0, 1), &mut work).is_ok());
     assert!(rt;
         matches!(
-            session.post(&table, 0, 3, &mut work),
+            session.query(Sides::new(&table, 0, 2), &mut work),
+            Ok(Verdict::Forced)
+        )
+    );
+    assert!(rt;
+        matches!(
+            session.post(Sides::new(&table, 0, 3), &mut work),
             Err(Refusal::Contradiction)
         )
     );
@@ -103,16 +115,15 @@ fn a_return_is_as_good_as_starting_over(rt: HostRuntime) {
     let mut session = Session::new(&mut slots, &mut ledger);
     let mut work = [0; 3];
     assert!(rt; session.open(2).is_ok());
-    assert!(rt; session.post(&table, 0, 1, &mut work).is_ok());
+    assert!(rt; session.post(Sides::new(&table, 0, 1), &mut work).is_ok());
     assert!(rt; session.mark().is_ok());
-    assert!(rt; session.post(&table, 0, 2, &mut work).is_ok());
+    assert!(rt; session.post(Sides::new(&table, 0, 2), &mut work).is_ok());
     assert!(rt; session.return_to_mark().is_ok());
     let mut shown = Normal::zero();
     assert!(rt; session.show(1, &mut shown).is_ok());
     let mut row = [Normal::zero(); 2];
     solve_all(
         &mut row,
-        2,
         &[Normal::of_variable(0).join(Normal::of_variable(1))],
     );
     assert!(rt; shown.same(row[1]));

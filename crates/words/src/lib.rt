@@ -10,7 +10,6 @@ ghost use Rattle.words.specs.Words.{known, counts_of, cut_back};
 use crate::dictionary::Dictionary;
 
 pub mod dictionary;
-pub mod entries;
 
 // The most words for variables.
 pub const VARIABLE_WORDS: usize = 64;
@@ -26,7 +25,7 @@ pub struct Words {
 }
 
 // How many words of each sort there are.
-#[derive(Clone, Copy)]
+#[derive(Clone, Copy, Debug, PartialEq, Eq)]
 pub struct Counts {
     pub variables: usize,
     pub names: usize,

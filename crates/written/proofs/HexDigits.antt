@@ -1,27 +1,16 @@
 -- Digits read back: the digits of a block are those of no other.
-use Rattle.std.proofs.Common.{◌≡◌, ℕ, ◌+◌, ◌*◌, ◌/◌, ◌%◌, ◌<◌, get_or, ap, ◌∙◌, ap₂, inl, inr, arith}
-use Rattle.std.proofs.lemmas.Bool.{cases_lt, cond-true, cond-false, lt-ltb, le-ltb, le-leb, lt-leb, eq-eqb, ne_eqb, and_from, and_right}
+use Rattle.std.proofs.Common.{◌≡◌, ℕ, ◌+◌, ◌*◌, ◌/◌, ◌%◌, ◌<◌, ◌==◌, true, get_or, refl, ap, ◌∙◌, ap₂, arith}
+use Rattle.std.proofs.lemmas.Bool.{agree_below_at, eqb-true, cond-true, cond-false, eq-eqb, ne_eqb}
 use Rattle.kinds.specs.declared.blocks.Block.{Block}
 use Rattle.kinds.specs.Kinds.{SameConstant}
 use Rattle.kinds.specs.Blocks.{block_bytes, byte, blocks}
 use Rattle.kinds.specs.Rows.{get_or_row}
 use Rattle.kinds.specs.BlockLaws.{block_same}
-use Rattle.written.specs.Hex.{between, hex_value_of, hex_digit_of, of_digits, digit_at, digits_of}
+use Rattle.written.specs.Hex.{hex_value_of, hex_digit_of, of_digits, digit_at, digits_of}
 
 -- the value of the digit of a value
 pub value_digit : (v : ℕ) → v < 16 → hex_value_of (hex_digit_of v) ≡ v
-value_digit v h =
-    elim (cases_lt v 10) [
-      | inl l ↦
-          ap hex_value_of (cond-true _ _ _ (lt-ltb v 10 l))
-          ∙ cond-true (between 48 57 (v + 48)) _ _ (and_from _ _ (le-leb 48 (v + 48) (omega arith)) (le-leb (v + 48) 57 (omega arith)))
-          ∙ (omega arith)
-      | inr l ↦
-          ap hex_value_of (cond-false _ _ _ (le-ltb v 10 l))
-          ∙ cond-false (between 48 57 (v + 87)) _ _ (and_right _ _ (lt-leb (v + 87) 57 (omega arith)))
-          ∙ cond-true (between 97 102 (v + 87)) _ _ (and_from _ _ (le-leb 97 (v + 87) (omega arith)) (le-leb (v + 87) 102 (omega arith)))
-          ∙ (omega arith)
-    ]
+value_digit v h = eqb-true _ _ (agree_below_at (λ w. hex_value_of (hex_digit_of w) == w) (λ w. true) 16 v refl h)
 
 high_digit : (x : Block) (i : ℕ) → i < block_bytes → get_or (digits_of x) (2 * i) 0 ≡ hex_digit_of (byte x i / 16)
 high_digit x i l =

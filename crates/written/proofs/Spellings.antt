@@ -1,21 +1,20 @@
 -- Constants are spelled so that they read back as the same.
-use Rattle.std.proofs.Common.{◌≡◌, ℕ, zero, suc, ◌+◌, ◌*◌, ◌^◌, ◌<◌, ◌≤◌, Bool, true, false, cond, T, length, is_some, Some, None, Option, sym, refl, ap, ◌∙◌, subst, ap₂, inl, inr, lt_of_lt_of_le, arith, pow_mono}
+use Rattle.std.proofs.Common.{◌≡◌, ℕ, zero, suc, ◌+◌, ◌*◌, ◌<◌, ◌≤◌, Bool, true, false, cond, is_some, Some, None, Option, sym, refl, ap, ◌∙◌, subst, ap₂, inl, inr, arith}
 use mathlib.Core.Bool.{false≢true}
-use Rattle.std.proofs.lemmas.List.{get_or_past}
-use Rattle.std.proofs.lemmas.Bool.{cases_eq, cases_lt, cases_Bool, cond-true, lt-ltb, both_ways}
+use Rattle.std.proofs.lemmas.Bool.{cases_eq, cases_lt, cond-true, lt-ltb, both_ways, false_from_ne_true}
 use Rattle.kinds.specs.declared.names.Names.{Names}
 use Rattle.kinds.specs.declared.blocks.Block.{Block}
 use Rattle.kinds.specs.declared.pair.Pair.{Pair}
 use Rattle.kinds.specs.Kinds.{Operations, SameConstant}
-use Rattle.kinds.specs.Digits.{digit, differs}
-use Rattle.kinds.specs.Names.{most_names, has_name, of_bits, one_name, names}
+use Rattle.kinds.specs.Names.{most_names, has_name, of_members, one_name, names, differs}
 use Rattle.kinds.specs.Blocks.{block_bytes, byte, blocks}
 use Rattle.kinds.specs.Pairs.{pairs}
-use Rattle.kinds.proofs.Digits.{differs_false, digit_xor, digit_ext, below_power, digit_zero, digit_power, digit_power_off, digit_above}
 use Rattle.kinds.proofs.Laws.{unit_right}
-use Rattle.kinds.specs.Tests.{both_pass, equal_passes, passes_true, fails_false}
+use Rattle.kinds.specs.Tests.{both_pass, passes_true}
 use Rattle.kinds.specs.NameLaws.{names_lawful}
 use Rattle.kinds.specs.BlockLaws.{blocks_lawful, block_same, same_bytes, byte_zero}
+use Rattle.std.specs.Bool.{passes}
+use Rattle.terms.proofs.SetFacts.{differs_false, has_empty, has_singleton, singleton_other, has_difference, sets_equal}
 use Rattle.terms.specs.Sums.{gather}
 use Rattle.terms.proofs.Sums.{gather_keeps, gather_map, count_most, count_none}
 use Rattle.written.specs.declared.Spelling.{Spelling}
@@ -43,77 +42,63 @@ Numbered s = (i : ℕ) → has_name s i ≡ true → i < most_names
 abbrev pub Bytes : Block → Type 0
 Bytes b = (i : ℕ) → byte b i < 256
 
-passes : (b : Bool) → b ≡ true → T b
-passes true e = tt
-passes false e = absurd (false≢true e)
-
 -- a set of names is the join of its names
 
-picked_that : (b : Bool) (n : ℕ) → digit (cond b (one_name n) names.zero).bits n ≡ b
-picked_that true n = digit_power n
-picked_that false n = digit_zero n
+picked_that : (b : Bool) (n : ℕ) → has_name (cond b (one_name n) names.zero) n ≡ b
+picked_that true n = has_singleton n
+picked_that false n = has_empty n
 
-picked_other : (b : Bool) (n v : ℕ) → (n ≡ v → ⊥) → digit (cond b (one_name n) names.zero).bits v ≡ false
-picked_other true n v d = elim (cases_Bool (digit (2 ^ n) v)) [ inl h ↦ absurd (d (digit_power_off n v h)) | inr h ↦ h ]
-picked_other false n v d = digit_zero v
+picked_other : (b : Bool) (n v : ℕ) → (n ≡ v → ⊥) → has_name (cond b (one_name n) names.zero) v ≡ false
+picked_other true n v d = singleton_other n v d
+picked_other false n v d = has_empty v
 
 abbrev gathered : Names → ℕ → Names
 gathered s n = gather names.zero names.join named n (has_name s)
 
 gathered_next : (s : Names) (n v : ℕ) → n < most_names
-    → digit (gathered s (suc n)).bits v ≡ differs (digit (gathered s n).bits v) (digit (cond (has_name s n) (one_name n) names.zero).bits v)
+    → has_name (gathered s (suc n)) v ≡ differs (has_name (gathered s n) v) (has_name (cond (has_name s n) (one_name n) names.zero) v)
 unfolding gather
 gathered_next s n v h =
     let name : named n ≡ one_name n = cond-true _ _ _ (lt-ltb n most_names h) in
-    digit_xor (gathered s n).bits (cond (has_name s n) (named n) names.zero).bits v
-    ∙ ap (λ m. differs (digit (gathered s n).bits v) (digit (cond (has_name s n) m names.zero).bits v)) name
+    has_difference (gathered s n).members (cond (has_name s n) (named n) names.zero).members v
+    ∙ ap (λ m. differs (has_name (gathered s n) v) (has_name (cond (has_name s n) m names.zero) v)) name
 
-gathered_none : (s : Names) (v : ℕ) → digit (gathered s 0).bits v ≡ false
+gathered_none : (s : Names) (v : ℕ) → has_name (gathered s 0) v ≡ false
 unfolding gather
-gathered_none s v = digit_zero v
+gathered_none s v = has_empty v
 
-gathered_above : (s : Names) (n v : ℕ) → n ≤ most_names → n ≤ v → digit (gathered s n).bits v ≡ false
+gathered_above : (s : Names) (n v : ℕ) → n ≤ most_names → n ≤ v → has_name (gathered s n) v ≡ false
 gathered_above s zero v h l = gathered_none s v
 gathered_above s (suc n) v h l =
     gathered_next s n v (omega arith)
     ∙ ap₂ differs (gathered_above s n v (omega arith) (omega arith)) (picked_other (has_name s n) n v (λ e. omega arith))
 
-gathered_below : (s : Names) (n v : ℕ) → n ≤ most_names → v < n → digit (gathered s n).bits v ≡ has_name s v
+gathered_below : (s : Names) (n v : ℕ) → n ≤ most_names → v < n → has_name (gathered s n) v ≡ has_name s v
 gathered_below s zero v h l = absurd (omega arith)
 gathered_below s (suc n) v h l =
     elim (cases_eq n v) [
       | inl e ↦
           gathered_next s n v (omega arith)
-          ∙ ap₂ differs (gathered_above s n v (omega arith) (omega arith)) (ap (λ u. digit (cond (has_name s n) (one_name n) names.zero).bits u) (sym e) ∙ picked_that (has_name s n) n ∙ ap (has_name s) e)
+          ∙ ap₂ differs (gathered_above s n v (omega arith) (omega arith)) (ap (λ u. has_name (cond (has_name s n) (one_name n) names.zero) u) (sym e) ∙ picked_that (has_name s n) n ∙ ap (has_name s) e)
       | inr d ↦
           gathered_next s n v (omega arith)
           ∙ ap₂ differs (gathered_below s n v (omega arith) (omega (arith, d))) (picked_other (has_name s n) n v d)
           ∙ differs_false (has_name s v)
     ]
 
--- every name of a set in one word has a number
-pub names_numbered : (s : Names) → s.bits < 2 ^ 64 → Numbered s
-names_numbered s fits i h =
-    elim (cases_lt i most_names) [
-      | inl l ↦ l
-      | inr l ↦ absurd (both_ways (has_name s i) (digit_above s.bits i (lt_of_lt_of_le fits (pow_mono l))) h)
-    ]
-
 names_gathered : (s : Names) → Numbered s → gathered s most_names ≡ s
 names_gathered s numbered =
-    let k = (gathered s most_names).bits + s.bits in
-    let big : k < 2 ^ k = below_power k in
-    ap of_bits (digit_ext k (gathered s most_names).bits s.bits (omega arith) (omega arith) (λ v.
+    ap of_members (sets_equal (gathered s most_names).members s.members (λ v.
     elim (cases_lt v most_names) [
       | inl l ↦ gathered_below s most_names v (omega arith) l
-      | inr l ↦ gathered_above s most_names v (omega arith) l ∙ sym (elim (cases_Bool (has_name s v)) [ inl h ↦ absurd (omega (arith, numbered v h)) | inr h ↦ h ])
+      | inr l ↦ gathered_above s most_names v (omega arith) l ∙ sym (false_from_ne_true _ (λ h. omega (arith, numbered v h)))
     ]))
 
 gathered_back : (s : Names) → Numbered s → SameConstant names (gathered s most_names) s
-gathered_back s numbered = equal_passes _ _ (ap (λ (t : Names). t.bits) (names_gathered s numbered))
+gathered_back s numbered = subst (SameConstant names (gathered s most_names)) (names_gathered s numbered) (names_lawful.same_self (gathered s most_names))
 
 no_name : (i : ℕ) → has_name names.zero i ≡ false
-no_name i = digit_zero i
+no_name i = has_empty i
 
 -- a block reads back
 
@@ -124,15 +109,11 @@ block_back b small = go (blocks.same b blocks.zero) refl
     go true e = blocks_lawful.same_sym {a = b} {b = blocks.zero} (passes _ e)
     go false e = digits_back b (λ i l. small i)
 
-pub zero_same : (b : Block) → ((i : ℕ) → byte b i ≡ 0) → blocks.same b blocks.zero ≡ true
-zero_same b h = passes_true _ (block_same b blocks.zero (λ i l. h i ∙ sym (byte_zero i l)))
+pub zero_same : (b : Block) → ((i : ℕ) → i < block_bytes → byte b i ≡ 0) → blocks.same b blocks.zero ≡ true
+zero_same b h = passes_true _ (block_same b blocks.zero (λ i l. h i l ∙ sym (byte_zero i l)))
 
-pub same_zero : (b : Block) → length b.bytes ≡ block_bytes → (((i : ℕ) → byte b i ≡ 0) → ⊥) → blocks.same b blocks.zero ≡ false
-same_zero b whole h =
-    fails_false _ (λ t. h (λ i. elim (cases_lt i block_bytes) [
-      | inl l ↦ same_bytes b blocks.zero t i l ∙ byte_zero i l
-      | inr l ↦ get_or_past b.bytes i 0 (omega arith)
-    ]))
+pub same_zero : (b : Block) → (((i : ℕ) → i < block_bytes → byte b i ≡ 0) → ⊥) → blocks.same b blocks.zero ≡ false
+same_zero b h = false_from_ne_true _ (λ t. h (λ i l. same_bytes b blocks.zero (passes _ t) i l ∙ byte_zero i l))
 
 -- no name stands for a block
 no_blocks : (n : ℕ) (p : ℕ → Bool) → SameConstant blocks (gather blocks.zero blocks.join (λ i. blocks.zero) n p) blocks.zero

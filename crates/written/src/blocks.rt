@@ -1,7 +1,7 @@
 // Blocks as text: a block is one literal, and zero is none.
-ghost use Rattle.std.specs.Prelude.{◌≡◌, ℕ, ◌<◌, ◌≤◌, length, ◌≢◌, slice_index};
+ghost use Rattle.std.specs.Prelude.{◌≡◌, ℕ, ◌<◌, refl, slice_index, IsTrue, ◌↔◌, EachIndex};
+ghost use Rattle.std.proofs.Math.Dec.{lit≤};
 ghost use Rattle.kinds.specs.Blocks.{byte};
-ghost use Rattle.terms.specs.Decisions.{Decides};
 ghost use Rattle.written.specs.Scripts.{block_unless_zero, blocks_script};
 
 use crate::hex::block_of;
@@ -10,26 +10,13 @@ use kinds::Kind;
 use kinds::blocks::Block;
 use kinds::names::Names;
 
-// How many zero bytes these begin with.
-fn zeros(bytes: &[u8]) -> usize
-    ensures within { result ≤ length bytes.now }
-    ensures before { (i : ℕ) → i < result → slice_index bytes.now i ≡ 0 }
-    ensures there { result < length bytes.now → slice_index bytes.now result ≢ 0 }
-{
-    for (i, byte) in bytes.iter().enumerate() {
-        if *byte != 0 {
-            return i;
-        }
-    }
-    bytes.len()
-}
-
-// Whether all of these bytes are zero.
+// Whether all of these bytes are zero. A slice, and no comparison with the zero block: of a slice it is known that each of
+// its elements is a byte.
 fn all_zero(bytes: &[u8]) -> bool
-    ensures value { Decides result ((i : ℕ) → slice_index bytes.now i ≡ 0) }
+    ensures value { IsTrue result ↔ EachIndex bytes.now (λ i. slice_index bytes.now i ≡ 0) }
     ensures below { (i : ℕ) → slice_index bytes.now i < 256 }
 {
-    zeros(bytes) == bytes.len()
+    bytes.iter().all(|byte| *byte == 0)
 }
 
 // The block, unless it is zero.
@@ -47,11 +34,9 @@ pub(crate) fn unless_zero(block: &Block) -> Option<Block>
 impl WrittenKind for Block {
     const LONGEST: usize = 33;
 
-    ghost script = { blocks_script };
+    ghost LONGEST = { blocks_script.longest };
 
-    fn longest_text() -> usize {
-        Self::LONGEST
-    }
+    ghost script = { blocks_script };
 
     fn take(literal: Literal) -> Option<Block> {
         match literal {
@@ -63,4 +48,8 @@ impl WrittenKind for Block {
     fn spell(&self) -> Spelling {
         Spelling::new(Names::zero(), unless_zero(self))
     }
+
+    ghost longest = { refl };
+
+    ghost most = { lit≤ tt };
 }

@@ -2,9 +2,11 @@
 ghost use Rattle.std.specs.Prelude.{◌≡◌, ◌<◌, slice_index};
 ghost use Rattle.written.specs.Hex.{hex_value_of, hex_digit_of, of_digits};
 
-use kinds::blocks::{BLOCK_BYTES, Block};
+use kinds::blocks::Block;
+use std::array;
 
-// The value of a digit, and 0 for any other byte.
+// The value of a digit. Any other byte counts as 0, in a block too, so that there is a value for each: no Option, which
+// every caller would turn back into that 0.
 pub fn hex_value(byte: u8) -> u8
     ensures value { result ≡ hex_value_of byte }
     ensures below { result < 16 }
@@ -28,25 +30,19 @@ pub fn hex_digit(value: u8) -> u8
     }
 }
 
-// The value of the digit at a place, and 0 past the end.
+// The value of the digit at a place; a place past the end counts as 0.
 fn value_at(digits: &[u8], place: usize) -> u8
     ensures value { result ≡ hex_value_of (slice_index digits.now place) }
     ensures below { result < 16 }
 {
-    if place < digits.len() {
-        hex_value(digits[place])
-    } else {
-        0
-    }
+    digits.get(place).map_or(0, |digit| hex_value(*digit))
 }
 
 // The block of these digits, two for each byte.
 pub(crate) fn block_of(digits: &[u8]) -> Block
     ensures { result ≡ of_digits digits.now }
 {
-    let mut bytes = [0; BLOCK_BYTES];
-    for i in 0..BLOCK_BYTES {
-        bytes[i] = 16 * value_at(digits, 2 * i) + value_at(digits, 2 * i + 1);
+    Block {
+        bytes: array::from_fn(|i| 16 * value_at(digits, 2 * i) + value_at(digits, 2 * i + 1)),
     }
-    Block { bytes }
 }

@@ -22,34 +22,20 @@ pub mod pair;
 pub const LONGEST_SPELLING: usize = 737;
 
 // A literal as it is read: a name by its number, or a block by its digits.
-#[derive(Clone, Copy)]
+#[derive(Clone, Copy, Debug, PartialEq, Eq)]
 pub enum Literal<'a> {
     Name(usize),
     Block(&'a [u8]),
 }
 
-// Made by functions: a caller that holds no digits may then take a name.
-impl<'a> Literal<'a> {
-    pub fn of_name(number: usize) -> Literal<'a>
-        ensures { result ≡ Literal.Name number }
-    {
-        Literal::Name(number)
-    }
-
-    pub fn of_block(digits: &'a [u8]) -> Literal<'a>
-        ensures { result ≡ Literal.Block digits.entry }
-    {
-        Literal::Block(digits)
-    }
-}
-
 // A constant as it is written: its names by number, then its block, if any.
-#[derive(Clone, Copy)]
+#[derive(Clone, Copy, Debug, PartialEq, Eq)]
 pub struct Spelling {
     pub names: Names,
     pub block: Option<Block>,
 }
 
+// Made by a function, since only what takes a set by value is told by its type which numbers it can have.
 impl Spelling {
     // The spelling of these parts. That every name has a number below 64 is known of each set, as it is one word.
     pub fn new(names: Names, block: Option<Block>) -> Spelling
@@ -65,13 +51,10 @@ pub trait WrittenKind: Kind {
     // the most bytes that a constant is written with
     const LONGEST: usize;
 
+    ghost LONGEST: { ℕ };
+
     // what the functions mean
     ghost script: { Script Self };
-
-    // The constant `LONGEST`, with what is known of it.
-    fn longest_text() -> usize
-        ensures value { result ≡ script.longest }
-        ensures most { result ≤ longest_spelling };
 
     // What a literal stands for, where the kind takes its sort.
     fn take(literal: Literal) -> Option<Self>
@@ -83,4 +66,10 @@ pub trait WrittenKind: Kind {
         ensures back { SameConstant Self.Kind.ops (spelled_value Self.Kind.ops script result) self.now }
         ensures allowed { Allowed script result }
         ensures short { widest result ≤ script.longest + 3 };
+
+    // the constant `LONGEST` is what the script says
+    ghost longest: { LONGEST ≡ script.longest };
+
+    // no kind is written longer than any may be
+    ghost most: { LONGEST ≤ longest_spelling };
 }

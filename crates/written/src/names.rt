@@ -1,17 +1,19 @@
 // Names as text: each name of a set is a literal.
-ghost use Rattle.std.specs.Prelude.{◌≡◌};
+ghost use Rattle.std.specs.Prelude.{◌≡◌, refl};
+ghost use Rattle.std.proofs.Math.Dec.{lit≤};
 ghost use Rattle.written.specs.Scripts.{named, names_script};
 
 use crate::{Literal, Spelling, WrittenKind};
 use kinds::Kind;
 use kinds::names::{MOST_NAMES, Names};
 
-// The name of a number alone, or no name where there is none of that number.
+// The name of a number alone, or no name where there is none of that number. No option: the empty set is what such a number
+// stands for, and each caller would put it back.
 pub(crate) fn name_of(number: usize) -> Names
     ensures { result ≡ named number }
 {
     if number < MOST_NAMES {
-        Names::one(number as u32)
+        Names::one(number)
     } else {
         Names::zero()
     }
@@ -20,11 +22,9 @@ pub(crate) fn name_of(number: usize) -> Names
 impl WrittenKind for Names {
     const LONGEST: usize = 701;
 
-    ghost script = { names_script };
+    ghost LONGEST = { names_script.longest };
 
-    fn longest_text() -> usize {
-        Self::LONGEST
-    }
+    ghost script = { names_script };
 
     fn take(literal: Literal) -> Option<Names> {
         match literal {
@@ -36,4 +36,8 @@ impl WrittenKind for Names {
     fn spell(&self) -> Spelling {
         Spelling::new(*self, None)
     }
+
+    ghost longest = { refl };
+
+    ghost most = { lit≤ tt };
 }

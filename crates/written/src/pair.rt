@@ -1,5 +1,6 @@
 // Names with a block as text: the names first, then the block. No other pair is written.
-ghost use Rattle.std.specs.Prelude.{◌≡◌};
+ghost use Rattle.std.specs.Prelude.{◌≡◌, refl};
+ghost use Rattle.std.proofs.Math.Dec.{lit≤};
 ghost use Rattle.written.specs.Scripts.{pair_script};
 
 use crate::blocks::unless_zero;
@@ -14,11 +15,9 @@ use kinds::pair::Pair;
 impl WrittenKind for Pair<Names, Block> {
     const LONGEST: usize = 737;
 
-    ghost script = { pair_script };
+    ghost LONGEST = { pair_script.longest };
 
-    fn longest_text() -> usize {
-        Self::LONGEST
-    }
+    ghost script = { pair_script };
 
     fn take(literal: Literal) -> Option<Pair<Names, Block>> {
         match literal {
@@ -36,4 +35,8 @@ impl WrittenKind for Pair<Names, Block> {
     fn spell(&self) -> Spelling {
         Spelling::new(self.first, unless_zero(&self.second))
     }
+
+    ghost longest = { refl };
+
+    ghost most = { lit≤ tt };
 }

@@ -1,38 +1,18 @@
-use Rattle.std.proofs.Common.{length, sym, refl, subst}
-use Rattle.tables.specs.Calls.{input}
-use Rattle.session.specs.Accounts.{use_of, query, show}
-use Rattle.session.specs.Keeping.{Answered}
-use Rattle.replay.specs.Promise.{call_of, WorkedOne}
-use Rattle.session.proofs.Keeping.{same_memory}
-use Rattle.replay.proofs.Runs.{worked_open}
+use Rattle.session.proofs.Keeping.{passed_on}
 use Rattle.replay.proofs.perform.Goals as goal
 
-pub returns-in-Query : goal.returns-in-Query
-returns-in-Query g c =
-    let s = c.args.session.now in
-    let i = input c.in-Query.table.now c.in-Query.left c.in-Query.right (length c.args.work.now) in
-    record {
-      told =
-          subst (λ q. Answered g.K.Kind.ops c.args.session.now (call_of (length c.args.work.now) q) c.told.result c.args.session.now) (sym c.in-Query.is)
-          (subst (λ r. Answered g.K.Kind.ops c.args.session.now (use_of (query (input c.in-Query.table.now c.in-Query.left c.in-Query.right (length c.args.work.now)))) r c.args.session.now) (sym c.told.ensures)
-          c.query-r.ensures.told);
-      work = (
-        λ ready. subst (λ q. WorkedOne q c.args.work.now c.query-r.new.work) (sym c.in-Query.is) (worked_open s i c.args.work.now c.query-r.new.work ready c.query-r.ensures.work),
-        λ shut. c.query-r.ensures.work.1 (λ p. shut p.0),
-      );
-      slots = refl;
-      ledger = refl;
-      memory = same_memory s;
-    }
+pub returns-in_err-verdict-in-Query-clause-told : goal.returns-in_err-verdict-in-Query-clause-told
+returns-in_err-verdict-in-Query-clause-told g c =
+    rw (c.in-Query.is, passed_on c.from_residual-in_err-verdict-in-Query.result c.in_err-verdict-in-Query.field-0.0 c.from_residual-in_err-verdict-in-Query.ensures.1)
+    c.in_err-verdict-in-Query.ensures.told
 
-pub returns-in-Show : goal.returns-in-Show
-returns-in-Show g c = record {
-  told =
-      subst (λ q. Answered g.K.Kind.ops c.args.session.now (call_of (length c.args.work.now) q) c.shown.result c.args.session.now) (sym c.in-Show.is)
-      (subst (λ r. Answered g.K.Kind.ops c.args.session.now (use_of (show c.in-Show.variable)) r c.args.session.now) (sym c.shown.ensures)
-      c.show-r.ensures.told);
-  work = (λ ready. subst (λ q. WorkedOne q c.args.work.now c.args.work.now) (sym c.in-Show.is) refl, λ shut. refl);
-  slots = refl;
-  ledger = refl;
-  memory = same_memory c.args.session.now;
-}
+pub returns-in_err-show-in-Show-clause-told : goal.returns-in_err-show-in-Show-clause-told
+returns-in_err-show-in-Show-clause-told g c =
+    rw (c.in-Show.is, passed_on c.from_residual-in_err-show-in-Show.result c.in_err-show-in-Show.field-0.0 c.from_residual-in_err-show-in-Show.ensures.1)
+    c.in_err-show-in-Show.ensures.told
+
+pub returns-in_ok-verdict-in-Query-clause-told : goal.returns-in_ok-verdict-in-Query-clause-told
+returns-in_ok-verdict-in-Query-clause-told g c = rw c.in-Query.is c.in_ok-verdict-in-Query.ensures.told
+
+pub returns-in_ok-show-in-Show-clause-told : goal.returns-in_ok-show-in-Show-clause-told
+returns-in_ok-show-in-Show-clause-told g c = rw c.in-Show.is c.in_ok-show-in-Show.ensures.told

@@ -1,57 +1,29 @@
-use Rattle.std.proofs.Common.{◌≡◌, length, take, drop, sym, refl, ap, ◌∙◌, subst, arith}
+use Rattle.std.proofs.Common.{◌≡◌, length, take, sym, refl, subst, arith}
 use lib.ListN.{length-map}
 use Rattle.std.proofs.lemmas.List.{take_all}
 use Rattle.session.specs.Accounts.{opened, new}
 use Rattle.session.specs.Keeping.{Keeps}
-use Rattle.replay.specs.Promise.{asks, answers}
-use Rattle.replay.proofs.Runs.{replaying_start, replaying_more, replayed, memory_on}
+use Rattle.replay.specs.Promise.{asks}
+use Rattle.replay.proofs.Runs.{replaying_start, replaying_on, replayed}
 use Rattle.replay.proofs.replay.Goals as goal
 
-pub returns-in-Err : goal.returns-in-Err
-returns-in-Err g c =
-    let o = c.in-Err.ensures in
-    record {
-      promise = o.opens;
-      asks = refl;
-      work = refl;
-      refused = (o.refused, refl);
-      slots = o.slots;
-      ledger = ap (drop _) o.ledger;
-      memory = o.memory;
-    }
+pub loop-request-init : goal.loop-request-init
+loop-request-init g c =
+    let o = c.in_ok-open.ensures in
+    let kept = subst (λ m. Keeps g.K.Kind.ops c.open.new.self (opened (new m c.args.n))) (sym o.memory.lengths) o.opens.2 in
+    (refl, replaying_start g.K.Kind.ops c.args.n _ _ c.open.new.self _ kept _)
 
-pub loop-i-init : goal.loop-i-init
-loop-i-init g c =
-    let o = c.in_default.ensures in
-    (refl, replaying_start g.K.Kind.ops c.args.n _ _ c.open.new.self _ (subst (λ m. Keeps g.K.Kind.ops c.open.new.self (opened (new m c.args.n))) (sym o.memory.lengths) o.opens.2) _)
+pub loop-request-preserved : goal.loop-request-preserved
+loop-request-preserved g c =
+    let p = c.perform-request.ensures in
+    replaying_on g.K.Kind.ops c.args.n _ _ _ _ c.loop-request.request-index c.loop-request.session c.perform-request.new.session c.loop-request.requests c.request-item.result
+    c.perform-request.result c.loop-request.work c.perform-request.new.work c.loop-request.invariant (omega arith) c.request-item.is c.loop-request.auto.work p.told p.work.0 p.slots
+    p.ledger p.memory
 
-pub loop-i-preserved : goal.loop-i-preserved
-loop-i-preserved g c =
-    let inv = c.loop-i.invariant in
-    let p = c.perform-answer.ensures in
-    let put = c.put_answer.ensures in
-    let count : length (asks c.loop-i.requests) ≡ length c.loop-i.requests = length-map c.loop-i.requests _ in
-    let held : length (answers c.loop-i.requests) ≡ length c.loop-i.requests = length-map c.loop-i.requests _ in
-    let same : length (asks c.loop-i.requests) ≡ length (asks c.args.requests.now) = ap length inv.0 in (
-      put.asks ∙ inv.0,
-      replaying_more g.K.Kind.ops c.args.n _ _ _ _ c.loop-i.i c.loop-i.session c.perform-answer.new.session _ _ c.loop-i.work c.perform-answer.new.work
-          c.ask_of-ask.result c.perform-answer.result inv.1 (omega arith) (omega arith) (rw inv.0 at c.ask_of-ask.ensures) c.loop-i.auto.work put.answers
-          p.told p.work.0 p.slots p.ledger p.memory,
-    )
-
-pub returns : goal.returns
-returns g c =
-    let o = c.in_default.ensures in
-    let inv = c.loop-i.invariant in
-    let r = inv.1 in
+pub returns-clause-promise : goal.returns-clause-promise
+returns-clause-promise g c =
+    let inv = c.loop-request.invariant in
+    let i = c.loop-request.request-index in
     let count : length (asks c.args.requests.now) ≡ length c.args.requests.now = length-map c.args.requests.now _ in
-    let all : take c.loop-i.i (asks c.args.requests.now) ≡ asks c.args.requests.now = take_all c.loop-i.i (asks c.args.requests.now) (omega arith) in
-    record {
-      promise = rw inv.0 (replayed g.K.Kind.ops c.args.n _ _ _ _ g.met.K.Kind.lawful c.loop-i.i c.loop-i.session _ _ all r);
-      asks = inv.0;
-      work = rw all at r.worked;
-      refused = (tt, tt);
-      slots = r.slots ∙ o.slots;
-      ledger = rw o.ledger at r.ledger;
-      memory = memory_on _ _ _ o.memory r.memory;
-    }
+    let all : take i (asks c.args.requests.now) ≡ asks c.args.requests.now = take_all i (asks c.args.requests.now) (omega arith) in
+    rw inv.0 (replayed g.K.Kind.ops c.args.n _ _ _ _ g.met.K.Kind.lawful i c.loop-request.session _ _ all inv.1)

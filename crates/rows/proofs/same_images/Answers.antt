@@ -1,27 +1,21 @@
-use Rattle.std.proofs.Common.{◌≡◌, inl, inr, arith}
+use Rattle.std.proofs.Common.{length, inl, inr, arith}
 use Rattle.std.proofs.lemmas.Bool.{cases_eq}
-use Rattle.steps.specs.Rows.{images}
-use Rattle.steps.proofs.RowSteps.{row_read}
+use Rattle.std.proofs.lemmas.List.{length_push}
+use Rattle.std.proofs.lemmas.Slice.Zip.{zip_turn}
+use Rattle.terms.specs.NormalForms.{of_variable}
 use Rattle.rows.proofs.same_images.Goals as goal
 
 pub returns-then-not-same : goal.returns-then-not-same
 returns-then-not-same g c = λ h.
-    let i = c.loop-i.i in
-    let k = g.K.Kind.ops in
-    let a : c.index-row-i.result ≡ images k c.args.row.now i = row_read k c.args.row.now i _ (omega (arith, c.requires.0)) c.index-row-i.is in
-    let b : c.index-other-i.result ≡ images k c.args.other.now i = row_read k c.args.other.now i _ (omega (arith, c.requires.1)) c.index-other-i.is in
-    c.if-not-same.ensures (rw (a, b) (h i c.loop-i-test.true))
+    let at = zip_turn c.args.row.now c.args.other.now c.loop-ours.yielded c.into_iter-ours-iterator.result c.loop-ours.ours-iterator c.next.new.self c.next.result (cc) (cc) c.loop-ours.yielded_by _ c.in-Some.is c.next.ensures.steps in
+    let i = length c.loop-ours.yielded in
+    c.if-not-same.ensures (rw (at.2 (of_variable g.K.Kind.ops i), at.3 (of_variable g.K.Kind.ops i)) (h i (omega (arith, at.0, at.1))))
 
-pub loop-i-preserved : goal.loop-i-preserved
-loop-i-preserved g c = λ u l.
-    let i = c.loop-i.i in
-    let k = g.K.Kind.ops in
-    let a : c.index-row-i.result ≡ images k c.args.row.now i = row_read k c.args.row.now i _ (omega (arith, c.requires.0)) c.index-row-i.is in
-    let b : c.index-other-i.result ≡ images k c.args.other.now i = row_read k c.args.other.now i _ (omega (arith, c.requires.1)) c.index-other-i.is in
+pub loop-ours-preserved : goal.loop-ours-preserved
+loop-ours-preserved g c = λ u l.
+    let at = zip_turn c.args.row.now c.args.other.now c.loop-ours.yielded c.into_iter-ours-iterator.result c.loop-ours.ours-iterator c.next.new.self c.next.result (cc) (cc) c.loop-ours.yielded_by _ c.in-Some.is c.next.ensures.steps in
+    let i = length c.loop-ours.yielded in
     elim (cases_eq u i) [
-      | inl e ↦ rw (e, ← a, ← b) c.if-not-same.ensures
-      | inr d ↦ c.loop-i.invariant u (omega (arith, d))
+      | inl e ↦ rw (e, ← at.2 (of_variable g.K.Kind.ops i), ← at.3 (of_variable g.K.Kind.ops i)) c.if-not-same.ensures
+      | inr d ↦ c.loop-ours.invariant u (omega (arith, d, length_push c.loop-ours.yielded (c.in-Some.ours, c.in-Some.theirs)))
     ]
-
-pub returns : goal.returns
-returns g c = λ u l. c.loop-i.invariant u (omega arith)

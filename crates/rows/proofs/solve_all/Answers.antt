@@ -1,20 +1,18 @@
-use Rattle.std.proofs.Common.{◌≡◌, take, refl, ◌∙◌, arith}
+use Rattle.std.proofs.Common.{◌≡◌, take, length, ◌∙◌, arith}
 use Rattle.std.proofs.lemmas.List.{take_all}
 use Rattle.steps.proofs.RowSteps.{row_starts, resolves_more}
 use Rattle.rows.proofs.solve_all.Goals as goal
 
-pub loop-i-init : goal.loop-i-init
-loop-i-init g c = (λ θ o met. row_starts g.K.Kind.ops g.met.K.Kind.lawful c.args.n c.restart.new.row c.restart.ensures.free, refl)
+pub loop-form-init : goal.loop-form-init
+loop-form-init g c = λ θ o met. row_starts g.K.Kind.ops g.met.K.Kind.lawful (length c.args.row.now) c.restart.new.row c.restart.ensures
 
-pub loop-i-preserved : goal.loop-i-preserved
-loop-i-preserved g c =
-    let t = c.take_in.ensures in (
-      resolves_more g.K.Kind.ops g.met.K.Kind.lawful c.args.n c.args.ledger.now c.loop-i.row c.take_in.new.row c.loop-i.i c.index-ledger-i.result c.take_in.result
-          c.loop-i-test.true c.index-ledger-i.is t.verdict t.grown c.loop-i.invariant.0,
-      t.rest ∙ c.loop-i.invariant.1,
-    )
+pub loop-form-preserved : goal.loop-form-preserved
+loop-form-preserved g c =
+    let long : length c.loop-form.row ≡ length c.args.row.now = c.loop-form.auto.row ∙ c.restart.auto.row in
+    resolves_more g.K.Kind.ops g.met.K.Kind.lawful (length c.args.row.now) c.args.ledger.now c.loop-form.row c.take_in.new.row c.loop-form.form-index c.form-item.result c.take_in.result
+    c.loop-form-test.true c.form-item.is (rw long at c.take_in.ensures.verdict) (rw long at c.take_in.ensures.grown) c.loop-form.invariant
 
 pub returns : goal.returns
 returns g c =
-    let all : take c.loop-i.i c.args.ledger.now ≡ c.args.ledger.now = take_all c.loop-i.i c.args.ledger.now (omega arith) in
-    record { solved = λ θ o met. rw all at (c.loop-i.invariant.0 θ o met); rest = c.loop-i.invariant.1 ∙ c.restart.ensures.rest }
+    let all : take c.loop-form.form-index c.args.ledger.now ≡ c.args.ledger.now = take_all c.loop-form.form-index c.args.ledger.now (omega arith) in
+    λ θ o met. rw all at (c.loop-form.invariant θ o met)

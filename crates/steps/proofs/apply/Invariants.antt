@@ -1,3 +1,4 @@
+use Rattle.std.proofs.Common.{length}
 use Rattle.terms.specs.Limits.{most_variables}
 use Rattle.terms.specs.NormalForms.{SameNormal}
 use Rattle.terms.specs.Sets.{has}
@@ -10,7 +11,7 @@ abbrev pub invariant-loop-v : goal.invariant-loop-v
 invariant-loop-v g l =
     let k = g.K.Kind.ops in
     let σ = images k l.row in
-    let whole = with_images k g.met.K.Kind.lawful l.n σ in
+    let whole = with_images k g.met.K.Kind.lawful (length l.row) σ in
     SameNormal k (whole l.sum l.rest) (whole l.initial.sum l.initial.rest)
 
 abbrev pub decreases-loop-v : goal.decreases-loop-v

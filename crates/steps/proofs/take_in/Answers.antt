@@ -1,4 +1,4 @@
-use Rattle.std.proofs.Common.{refl}
+use Rattle.std.proofs.Common.{refl, length}
 use Rattle.steps.proofs.RowSteps.{row_follows, row_binds}
 use Rattle.steps.proofs.Trails.{row_undoable}
 use Rattle.steps.proofs.take_in.Goals as goal
@@ -8,9 +8,8 @@ returns-in-Forced g c =
     let told = c.in-Forced.ensures in
     record {
       verdict = told.verdict;
-      grown = row_follows g.K.Kind.ops g.met.K.Kind.lawful c.args.n c.args.row.now c.args.a told.remains;
+      grown = row_follows g.K.Kind.ops g.met.K.Kind.lawful (length c.args.row.now) c.args.row.now c.args.a told.remains;
       undoable = refl;
-      rest = refl;
     }
 
 pub returns-in-Open : goal.returns-in-Open
@@ -21,7 +20,6 @@ returns-in-Open g c =
     let made = c.bind-changed.ensures in
     record {
       verdict = told.verdict;
-      grown = row_binds k lawful c.args.n c.args.row.now _ c.args.a c.in-Open.remainder c.in-Open.pivot told.remains made.bound;
-      undoable = row_undoable k lawful c.args.n c.args.row.now _ c.args.a c.in-Open.remainder c.in-Open.pivot c.bind-changed.result told.remains made.bound made.changed;
-      rest = made.rest;
+      grown = row_binds k lawful (length c.args.row.now) c.args.row.now _ c.args.a c.in-Open.remainder c.in-Open.pivot told.remains made.bound;
+      undoable = row_undoable k lawful (length c.args.row.now) c.args.row.now _ c.args.a c.in-Open.remainder c.in-Open.pivot c.bind-changed.result told.remains made.bound made.changed;
     }

@@ -1,15 +1,18 @@
-use Rattle.std.proofs.Common.{sym, arith}
-use Rattle.tokens.proofs.Stretches.{stretch_none, stretch_more}
+use Rattle.std.proofs.Common.{◌+◌, drop, sym, subst, ap, ◌∙◌}
+use Rattle.std.proofs.lemmas.List.{take_rest}
+use Rattle.std.proofs.lemmas.List.Folds.{length-prefix_len}
+use Rattle.std.proofs.lemmas.Iterator.{YieldsList-from_slice}
+use Rattle.std.proofs.lemmas.Iterator.Consumers.{YieldsList-from_copied, YieldsList-at, count_from_yields_List}
+use Rattle.std.proofs.lemmas.Iterator.Search.{YieldsList-from_take_while}
+use Rattle.tokens.specs.Tokens.{Run}
+use Rattle.tokens.proofs.Stretches.{run_from}
 use Rattle.tokens.proofs.run_end.Goals as goal
 
-pub loop-at-init : goal.loop-at-init
-loop-at-init c = stretch_none c.requires
-
-pub loop-at-preserved : goal.loop-at-preserved
-loop-at-preserved c = stretch_more c.loop-at.invariant (omega arith) (sym c.if-of_class.ensures)
-
-pub returns-else-of_class : goal.returns-else-of_class
-returns-else-of_class c = record { stretch = c.loop-at.invariant; longest = λ _. sym c.if-of_class.ensures }
-
-pub returns-after-loop-at : goal.returns-after-loop-at
-returns-after-loop-at c = record { stretch = c.loop-at.invariant; longest = λ h. absurd (omega arith) }
+pub returns-clause-run : goal.returns-clause-run
+returns-clause-run g c p t =
+    let line = c.args.line.now in
+    let a = c.args.from in
+    let rest = YieldsList-from_slice (drop a line) (c.iter.ensures.rest ∙ take_rest line a) in
+    let passing = YieldsList-from_take_while _ p (YieldsList-at c.take_while.ensures.source (YieldsList-from_copied (YieldsList-at c.copied.ensures.source rest))) c.take_while.ensures.closure c.take_while.ensures.done t in
+    let n = count_from_yields_List c.take_while.result c.count.result c.count.ensures.ran passing ∙ length-prefix_len p (drop a line) in
+    subst (Run p line a) (sym (ap (λ k. a + k) n)) (run_from p line a c.requires.within)

@@ -1,73 +1,80 @@
-use Rattle.std.proofs.Common.{◌≡◌, length, get_or, drop, sym, refl, ap, ◌∙◌, subst, arith, length-set}
+use Rattle.std.proofs.Common.{◌+◌, ◌++◌, drop, sym, refl, ◌∙◌, arith, length-set}
 use Rattle.std.proofs.lemmas.List.{get_or-set_other, drop-set-lt}
-use Rattle.session.specs.Accounts.{form_full}
-use Rattle.session.specs.Keeping.{Kept}
-use Rattle.session.proofs.Keeping.{unchanged_self, row, full_form, clash_form, taken_form, with_this, posting, same_memory, only_next_self}
+use Rattle.steps.specs.declared.verdict.Verdict.TheVariants.{Never}
+use Rattle.steps.specs.declared.Taken.TheVariants.{Clashes}
+use Rattle.steps.specs.Rows.{taken_as}
+use Rattle.session.specs.Accounts.{form_full, form_clash, form_taken}
+use Rattle.heads.specs.Heads.{counted_head}
+use Rattle.session.proofs.Keeping.{kept_here, front_says, front_grown, front_undoable, front_length, front_stays, full, holds, space, met, with_this, posting, fits_as, size_as, standing_as, usable_as}
 use Rattle.session.proofs.Session.post_form.Goals as goal
 
-pub returns-then-entry-self : goal.returns-then-entry-self
-returns-then-entry-self g c =
+pub returns-then-entry-head-clause-told : goal.returns-then-entry-head-clause-told
+returns-then-entry-head-clause-told g c a e keeps inside same =
     let k = g.K.Kind.ops in
     let l = g.met.K.Kind.lawful in
-    let s = c.args.self.now in
-    record {
-      told = λ a e h inside same. (a, form_full (full_form k l s.head s.trail s.slots.now s.ledger.now a h c.args.form e inside same c.if-entry-self.true), h);
-      refused = unchanged_self c.args.self.now;
-      slots = refl;
-      ledger = only_next_self c.args.self.now;
-      memory = same_memory c.args.self.now;
-    }
+    let kept = kept_here k c.args.self.now c.in-Some.is a keeps in
+    (a, form_full (full k l kept c.if-entry-head.true), (c.in-Some.head, refl, kept))
 
-pub returns-in-Clashes : goal.returns-in-Clashes
-returns-in-Clashes g c =
+pub returns-in-Clashes-clause-told : goal.returns-in-Clashes-clause-told
+returns-in-Clashes-clause-told g c a e keeps inside same =
     let k = g.K.Kind.ops in
     let l = g.met.K.Kind.lawful in
-    let s = c.args.self.now in
-    let still : c.take_in-taken.new.row ≡ c.args.self.now.slots.now = c.in-Clashes.ensures.undoable in
-    record {
-      told = λ a e h inside same. (
-        a,
-        clash_form k l s.head s.trail s.slots.now s.ledger.now a h c.args.form e inside same c.if-entry-self.false
-            (c.in-Clashes.ensures.verdict _ (row k l s.head s.trail s.slots.now s.ledger.now a h)),
-        subst (λ z. Kept g.K.Kind.ops c.args.self.now.head c.args.self.now.trail z c.args.self.now.ledger.now a) (sym still) h,
-      );
-      refused = record { head = refl; trail = refl; slots = still; ledger = refl };
-      slots = c.take_in-taken.ensures.rest;
-      ledger = record { others = λ i d x. refl; beyond = refl };
-      memory = record { slots = refl; ledger = refl; lengths = ap (λ z. record { slots = length z; ledger = length c.args.self.now.ledger.now }) still };
-    }
-
-pub put-requires : goal.put-requires
-put-requires g c = omega (arith, c.requires.head.entries, c.if-entry-self.false)
+    let x = c.args.form in
+    let kept = kept_here k c.args.self.now c.in-Some.is a keeps in
+    let says = front_says k l kept x Never c.in-Clashes.ensures.verdict in
+    let back = front_undoable k l kept x Clashes c.take_in-taken.new.row c.take_in-taken.auto.row c.in-Clashes.ensures.undoable in (
+      a,
+      form_clash (space k l kept x e inside same c.if-entry-head.false) (holds k l kept x e inside same Never says),
+      (c.in-Some.head, refl, rw back kept),
+    )
 
 pub returns : goal.returns
 returns g c =
     let k = g.K.Kind.ops in
     let l = g.met.K.Kind.lawful in
     let s = c.args.self.now in
+    let h = c.in-Some.head in
+    let here = c.in-Some.is in
+    let x = c.args.form in
+    let took = c.take_in-taken.ensures in
     let out = c.take_in-taken.result in
-    let entry = s.head.standing in
-    let long : length c.take_in-taken.new.row ≡ length c.args.self.now.slots.now = c.take_in-taken.auto.row in
-    let longer : length c.put.new.ledger ≡ length c.args.self.now.ledger.now = ap length c.put.ensures ∙ length-set s.ledger.now entry c.args.form in
+    let front = c.take_in-taken.new.row in
+    let room = (s.fits h here).room in
     record {
-      told = λ a e h inside same.
-          let solved = row k l s.head s.trail s.slots.now s.ledger.now a h in (
-            with_this k l s.head s.trail s.slots.now s.ledger.now a h c.args.form e inside same,
-            taken_form k l s.head s.trail s.slots.now s.ledger.now a h c.args.form e inside same c.if-entry-self.false out c.in_default.not-Clashes
-                (c.take_in-taken.ensures.verdict _ solved) _,
-            rw c.put.ensures
-                (posting k l s.head s.trail s.slots.now s.ledger.now a h c.args.form e inside same c.if-entry-self.false out c.in_default.not-Clashes
-                c.take_in-taken.new.row long (c.take_in-taken.ensures.grown _ solved) c.take_in-taken.ensures.undoable c.note.new.self c.note.ensures),
+      told = λ a e keeps inside same.
+          let kept = kept_here k s here a keeps in
+          let y = met k l kept x e inside same out c.in_default-taken.not-Clashes (front_says k l kept x (taken_as out) took.verdict) in (
+            with_this k l kept x e inside same,
+            form_taken (space k l kept x e inside same c.if-entry-head.false) y.0 y.1 y.2,
+            (
+              counted_head h (h.standing + 1),
+              refl,
+              posting k l kept x e inside same c.if-entry-head.false out c.in_default-taken.not-Clashes (front ++ drop h.size s.slots.now)
+                  (front_length k l kept x out front c.take_in-taken.auto.row)
+                  (front_grown k l kept x out front c.take_in-taken.auto.row took.grown)
+                  (front_undoable k l kept x out front c.take_in-taken.auto.row took.undoable) c.note.new.self c.note.ensures,
+            ),
           );
       refused = tt;
-      slots = c.take_in-taken.ensures.rest;
+      slots = rw (size_as s here) (front_stays k h.size s.slots.now room front c.take_in-taken.auto.row).0;
       ledger = record {
-        others = λ i d x. ap (λ z. get_or z i x) c.put.ensures ∙ get_or-set_other s.ledger.now entry i c.args.form x d;
-        beyond = ap (drop s.head.usable) c.put.ensures ∙ drop-set-lt s.head.usable s.ledger.now entry c.args.form c.if-entry-self.false;
+        others = λ j d y. get_or-set_other s.ledger.now h.standing j x y (λ same. d (same ∙ sym (standing_as s here)));
+        beyond = rw (usable_as s here) (drop-set-lt h.usable s.ledger.now h.standing x c.if-entry-head.false);
       };
-      memory = record {
-        slots = refl;
-        ledger = refl;
-        lengths = ap (λ z. record { slots = z; ledger = length c.put.new.ledger }) long ∙ ap (λ z. record { slots = length c.args.self.now.slots.now; ledger = z }) longer;
-      };
+      memory = record { slots = refl; ledger = refl; lengths = rw ((front_stays k h.size s.slots.now room front c.take_in-taken.auto.row).1, length-set s.ledger.now h.standing x) refl };
+    }
+
+pub invariant_of-self-2 : goal.invariant_of-self-2
+invariant_of-self-2 g c =
+    let s = c.args.self.now in
+    let h = c.in-Some.head in
+    let fit = s.fits h c.in-Some.is in
+    let stays = front_stays g.K.Kind.ops h.size s.slots.now fit.room c.take_in-taken.new.row c.take_in-taken.auto.row in
+    record {
+      fits = fits_as (counted_head h (h.standing + 1)) (record {
+        range = fit.range;
+        room = rw stays.1 fit.room;
+        standing = omega (arith, c.if-entry-head.false);
+        entries = rw (length-set s.ledger.now h.standing c.args.form) fit.entries;
+      });
     }

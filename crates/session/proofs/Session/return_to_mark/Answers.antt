@@ -1,54 +1,50 @@
-use Rattle.std.proofs.Common.{◌≡◌, length, drop, refl, subst, rules}
+use Rattle.std.proofs.Common.{◌≡◌, ◌∙◌, Ok, Err, length, sym, refl, ap}
+use Rattle.refusals.specs.declared.Refusal.TheVariants.{NoMark}
 use Rattle.heads.specs.declared.head.Head.{Head}
-use Rattle.session.specs.Accounts.{return_to_mark}
-use Rattle.heads.specs.Limits.{most_marks}
-use Rattle.session.proofs.Keeping.{answered_closed, unchanged_self, same_memory}
-use Rattle.session.proofs.Returning.{returns_nowhere, returns_none, returns_back}
+use Rattle.heads.specs.Heads.{Memory, counted_head}
+use Rattle.session.specs.declared.answer.Reply.TheVariants.{Done}
+use Rattle.session.specs.Accounts.{use_of, return_to_mark, no_mark}
+use Rattle.session.specs.Keeping.{memory_of}
+use Rattle.session.proofs.Keeping.{passed_on, answered_closed, answered_open}
+use Rattle.session.proofs.Returning.{before, return_step, keeps_all, keeps_first}
 use Rattle.session.proofs.Session.return_to_mark.Goals as goal
 
-pub returns-then-not-is_open : goal.returns-then-not-is_open
-returns-then-not-is_open g c = record {
-  told = answered_closed g.K.Kind.ops c.args.self.now return_to_mark c.if-not-is_open.ensures;
-  refused = unchanged_self c.args.self.now;
-  slots = refl;
-  ledger = refl;
-  memory = same_memory c.args.self.now;
-}
+pub returns-in_default-clause-told : goal.returns-in_default-clause-told
+returns-in_default-clause-told g c = answered_closed g.K.Kind.ops c.args.self.now return_to_mark c.in_default.is
 
-pub returns-in-Err : goal.returns-in-Err
-returns-in-Err g c = record {
-  told = returns_nowhere g.K.Kind.ops c.args.self.now c.if-not-is_open.ensures _ _ c.in-Err.ensures;
-  refused = record { head = c.in-Err.ensures.2; trail = refl; slots = refl; ledger = refl };
-  slots = refl;
-  ledger = refl;
-  memory = record { slots = refl; ledger = refl; lengths = refl };
-}
+pub returns-in_err-mark-clause-told : goal.returns-in_err-mark-clause-told
+returns-in_err-mark-clause-told g c =
+    let unmarked = c.in_err-mark.ensures in
+    rw (passed_on c.from_residual.result c.in_err-mark.field-0.0 c.from_residual.ensures.1, unmarked.0)
+    (answered_open g.K.Kind.ops c.args.self.now c.in-Some.is _ (use_of return_to_mark) (Err NoMark)
+    (λ a kept. (a, no_mark (sym kept.marks ∙ unmarked.1), (c.unmark.new.self, refl, rw unmarked.2 kept))))
 
-pub returns-then-mark-self : goal.returns-then-mark-self
-returns-then-mark-self g c =
+pub returns-then-mark-head-clause-told : goal.returns-then-mark-head-clause-told
+returns-then-mark-head-clause-told g c =
+    let k = g.K.Kind.ops in
+    let l = g.met.K.Kind.lawful in
     let s = c.args.self.now in
     let t = c.unwind.new.self in
-    let marks = c.in-Ok.ensures in
+    let h = c.unmark.new.self in
+    let m = c.in_ok-mark.mark in
     let done = c.unwind.ensures in
-    let long : length c.args.self.now.head.marks ≡ most_marks = search rules in
-    record {
-      told = returns_back g.K.Kind.ops g.met.K.Kind.lawful s c.if-not-is_open.ensures marks.0 long c.unmark.new.self marks.2 c.in-Ok.mark marks.1 c.if-mark-self.true t
-          done.unwound done.head done.ledger done.memory.lengths;
-      refused = tt;
-      slots = subst (λ (h : Head). drop h.size t.slots.now ≡ drop h.size s.slots.now) marks.2 done.slots;
-      ledger = done.ledger;
-      memory = record { slots = done.memory.slots; ledger = done.memory.ledger; lengths = done.memory.lengths };
-    }
+    let unmarked = c.in_ok-mark.ensures in
+    let long : length c.unwind.new.self.slots.now ≡ length c.args.self.now.slots.now = ap (λ (z : Memory). z.slots) done.memory.lengths in
+    let sized : c.in-Some.head.size ≡ c.unmark.new.self.size = ap (λ (z : Head). z.size) unmarked in
+    answered_open k s c.in-Some.is _ (use_of return_to_mark) (Ok Done) (λ a kept. (
+      before k l kept h m unmarked,
+      return_step k l kept h m unmarked (memory_of s),
+      (counted_head h m, done.head, rw done.ledger (keeps_first k l kept h m unmarked c.if-mark-head.true t.trail t.slots.now long (rw sized at done.unwound))),
+    ))
 
-pub returns-else-mark-self : goal.returns-else-mark-self
-returns-else-mark-self g c =
-    let s = c.args.self.now in
-    let marks = c.in-Ok.ensures in
-    let long : length c.args.self.now.head.marks ≡ most_marks = search rules in
-    record {
-      told = returns_none g.K.Kind.ops g.met.K.Kind.lawful s c.if-not-is_open.ensures marks.0 long c.unmark.new.self marks.2 c.in-Ok.mark marks.1 c.if-mark-self.false;
-      refused = tt;
-      slots = refl;
-      ledger = refl;
-      memory = record { slots = refl; ledger = refl; lengths = refl };
-    }
+pub returns-else-mark-head-clause-told : goal.returns-else-mark-head-clause-told
+returns-else-mark-head-clause-told g c =
+    let k = g.K.Kind.ops in
+    let l = g.met.K.Kind.lawful in
+    let h = c.unmark.new.self in
+    let m = c.in_ok-mark.mark in
+    answered_open k c.args.self.now c.in-Some.is _ (use_of return_to_mark) (Ok Done) (λ a kept. (
+      before k l kept h m c.in_ok-mark.ensures,
+      return_step k l kept h m c.in_ok-mark.ensures (memory_of c.args.self.now),
+      (h, refl, keeps_all k l kept h m c.in_ok-mark.ensures c.if-mark-head.false),
+    ))

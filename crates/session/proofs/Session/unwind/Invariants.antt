@@ -1,8 +1,9 @@
+use Rattle.std.proofs.Common.{length}
 use Rattle.session.proofs.Returning.{Unwinding}
 use Rattle.session.proofs.Session.unwind.Given as goal
 
 abbrev pub invariant-loop-binding : goal.invariant-loop-binding
-invariant-loop-binding g l = Unwinding g.K.Kind.ops l.initial.self l.mark l.self
+invariant-loop-binding g l = Unwinding g.K.Kind.ops l.n l.initial.self l.mark l.self
 
 abbrev pub decreases-loop-binding : goal.decreases-loop-binding
-decreases-loop-binding g l = l.self.trail.count
+decreases-loop-binding g l = length l.self.trail.bindings.items

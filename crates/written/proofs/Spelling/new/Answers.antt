@@ -1,6 +1,8 @@
-use Rattle.std.proofs.Common.{refl}
-use Rattle.written.proofs.Spellings.{names_numbered}
+use Rattle.std.proofs.Common.{rules}
+use Rattle.terms.proofs.SetFacts.{InWord, numbers_below}
 use Rattle.written.proofs.Spelling.new.Goals as goal
 
-pub returns : goal.returns
-returns c = record { value = refl; numbered = names_numbered c.args.names c.well_formed.0.1.1.0.1 }
+pub returns-clause-numbered : goal.returns-clause-numbered
+returns-clause-numbered c =
+    let word : InWord c.args.names.members = search rules in
+    numbers_below c.args.names.members word

@@ -1,26 +1,14 @@
-use Rattle.std.proofs.Common.{◌≡◌, [], get_or, sym, refl, ◌∙◌, arith, below_more}
-use borrow.Author.Tests.{both_ways}
-use Rattle.words.specs.Words.{texts}
-use Rattle.words.proofs.Lookups.{index_first, index_absent}
-use Rattle.words.proofs.Dictionaries.{length_texts, text_at}
+use Rattle.std.proofs.Common.{rules, tests}
+use Rattle.std.proofs.lemmas.Iterator.{YieldsList-from_slice}
+use Rattle.std.proofs.lemmas.Iterator.Search.{position_from_yields_List}
+use Rattle.std.specs.Str.{bytes_eq}
+use Rattle.words.proofs.Dictionaries.{found_at}
 use Rattle.words.proofs.dictionary.Dictionary.number.Goals as goal
-
-pub returns-then-is : goal.returns-then-is
-returns-then-is g c =
-    let d = c.args.self.now in
-    let i = c.loop-i.i in
-    let at = text_at d i c.index-self-i.result (omega arith) in
-    let here : get_or (texts d) i [] ≡ c.args.word.now = at ∙ c.if-is.ensures.0 refl in
-    sym (index_first (texts d) c.args.word.now i c.loop-i.invariant (omega (arith, length_texts d)) here)
-
-pub loop-i-preserved : goal.loop-i-preserved
-loop-i-preserved g c =
-    let d = c.args.self.now in
-    let at = text_at d c.loop-i.i c.index-self-i.result (omega arith) in
-    below_more _ _ c.loop-i.invariant (λ e. both_ways _ c.if-is.false (c.is.ensures.1 (sym at ∙ e)))
 
 pub returns : goal.returns
 returns g c =
-    let d = c.args.self.now in
-    let all = length_texts d in
-    sym (index_absent (texts d) c.args.word.now (λ k l. c.loop-i.invariant k (omega arith)) ∙ all)
+    let ws = c.self.inside.words in
+    let w = c.args.word.now in
+    let place = position_from_yields_List (λ v. bytes_eq v.items w) _ _ c.position.result c.position.ensures.ran (YieldsList-from_slice ws.items cc) (λ x b q k. search (rules, tests)) in
+    let found = found_at ws w c.position.result place in
+    rw (← c.self.view_is) (record { first = found.first; within = found.within; unknown = found.unknown })
