@@ -8,7 +8,7 @@ use refusals::Refusal;
 // The most marks that are held.
 pub const MOST_MARKS: usize = 32;
 
-#[derive(Clone, Drop)]
+#[derive(Clone, Drop, Debug, PartialEq, Eq)]
 pub struct Head {
     // the number of variables
     pub size: usize,

@@ -6,7 +6,7 @@ use arrayvec::ArrayVec;
 use steps::{Binding, Taken};
 use terms::sets::MOST_VARIABLES;
 
-#[derive(Clone, Drop)]
+#[derive(Clone, Drop, Debug, PartialEq, Eq)]
 pub struct Trail {
     pub bindings: ArrayVec<Binding, MOST_VARIABLES>,
 }

@@ -11,7 +11,7 @@ use terms::sets::MOST_VARIABLES;
 pub struct Message(pub Normal<Names>);
 
 // A part of a message.
-#[derive(Clone, Copy)]
+#[derive(Clone, Copy, Debug, PartialEq, Eq)]
 enum Part {
     Variable(usize),
     Name(char),
@@ -29,9 +29,6 @@ impl fmt::Display for Part {
 impl fmt::Display for Message {
     fn fmt<W: fmt::Write>(&self, f: &mut fmt::Formatter<W>) -> fmt::Result {
         let Normal { vars, constant } = self.0;
-        if self.0.same(Normal::zero()) {
-            return f.write_str("0");
-        }
         let variables = (0..MOST_VARIABLES)
             .filter(|&v| vars.contains(v))
             .map(Part::Variable);
@@ -39,12 +36,16 @@ impl fmt::Display for Message {
             .enumerate()
             .filter(|&(number, _)| constant.contains(number))
             .map(|(_, letter)| Part::Name(letter));
-        for (i, part) in variables.chain(names).enumerate() {
-            if i > 0 {
-                f.write_str(" ^ ")?;
+        let mut parts = variables.chain(names);
+        match parts.next() {
+            None => f.write_str("0"),
+            Some(first) => {
+                write!(f, "{first}")?;
+                for part in parts {
+                    write!(f, " ^ {part}")?;
+                }
+                Ok(())
             }
-            write!(f, "{part}")?;
         }
-        Ok(())
     }
 }

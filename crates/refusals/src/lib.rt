@@ -60,6 +60,7 @@ pub enum Refusal {
 }
 
 impl Refusal {
+    // The number that the case has in the list, by which it is told.
     pub fn number(self) -> u32
         ensures { result ≡ number_of self }
     {
@@ -90,6 +91,7 @@ impl Refusal {
         }
     }
 
+    // The place, a number for each case: it is told of each, and it is 0 where the list has none.
     pub fn place(self) -> usize
         ensures { result ≡ place_of self }
     {

@@ -25,7 +25,8 @@ pub fn same_images<K: Kind>(row: &[Normal<K>], other: &[Normal<K>]) -> bool
 }
 
 // Makes the row the solved form of a whole ledger, from the start, if some substitution clears it. This is the plain way
-// to take equations out, by solving those that stay once more. Asks that there can be so many variables.
+// to take equations out, by solving those that stay once more. Asks that there can be so many variables, as the steps do:
+// a slice has no place for that.
 pub fn solve_all<K: Kind>(row: &mut [Normal<K>], ledger: &[Normal<K>])
     requires { length row.old ≤ most_variables }
     ensures { Resolves K.ops (length row.old) ledger.now ledger.now row.new }

@@ -33,7 +33,7 @@ fn nodes() -> [Node<Names>; NODES] {
 }
 
 fn label(node: usize) -> &'static str {
-    if node < NODES { LABELS[node] } else { "?" }
+    LABELS.get(node).copied().unwrap_or("?")
 }
 
 // Prints an answer, on the line of its action.

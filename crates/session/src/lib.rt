@@ -106,7 +106,7 @@ impl<'m, K: Kind> Session<'m, K> {
         head.mark()
     }
 
-    // Puts the image of a variable into the record.
+    // Puts the image of a variable into the record, which is the caller's and keeps what it holds when the call is refused.
     pub fn show(&self, variable: usize, record: &mut Normal<K>) -> Result<(), Refusal>
         ensures told { Answered K.ops self.now (use_of (show variable)) (shown_reply result «record».new) self.now }
         ensures record { MatchResult result (λ _. «record».new ≡ images K.ops (slots_of self.now) variable) (λ _. «record».new ≡ «record».old) }
@@ -158,6 +158,7 @@ impl<'m, K: Kind> Session<'m, K> {
         if let Taken::Clashes = taken {
             return Err(Refusal::Contradiction);
         }
+        // the field by a variable, since the borrow check does not cover it while the head is lent from another
         let ledger: &mut [Normal<K>] = self.ledger;
         ledger[entry] = form;
         self.trail.note(taken, entry);

@@ -32,7 +32,7 @@ pub enum Judgement<K> {
 }
 
 // What a normal form did to a row: nothing, as it follows; nothing, as it clashes; or it bound a variable, and changed
-// the images of those in the set.
+// the images of those in the set. Again three answers: that it clashes is an error only to the caller who wants it in.
 #[derive(Clone, Copy, Debug, PartialEq, Eq)]
 pub enum Taken {
     Follows,

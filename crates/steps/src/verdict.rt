@@ -4,7 +4,7 @@ ghost use Rattle.steps.specs.Verdicts.{word_of};
 
 use std::fmt;
 
-// Which of the solutions meet an equation: all of them, none, or only some.
+// Which of the solutions meet an equation: all of them, none, or only some. Three answers, none of them an error or a lack.
 #[derive(Clone, Copy, Debug, PartialEq, Eq)]
 pub enum Verdict {
     Forced,

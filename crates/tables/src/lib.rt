@@ -20,7 +20,8 @@ use terms::sets::MOST_VARIABLES;
 // The most nodes of a table.
 pub const MOST_NODES: usize = 4096;
 
-// The two sides of an equation, as nodes of one table.
+// The two sides of an equation, as nodes of one table. The number of variables and the working bytes are no part of it and
+// come with each call: a session knows the one, and the other are lent for the call and may be more than the nodes.
 #[derive(Clone, Copy)]
 pub struct Sides<'a, K> {
     pub table: &'a [Node<K>],
@@ -69,7 +70,7 @@ fn collect<K: Kind>(table: &[Node<K>], work: &mut [u8]) -> Normal<K>
     ensures sum { SameNormal K.ops result (picked_sum K.ops table.now work.old) }
 {
     let mut sum = Normal::zero();
-    // by places, since a join writes the bytes of two lower ones; of `enumerate().rev()` nothing is known that says which
+    // by places, since a join writes the bytes of two lower ones
     for i in (0..table.len()).rev() {
         if work[i] != 0 {
             work[i] = 0;

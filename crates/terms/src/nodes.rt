@@ -12,7 +12,9 @@ pub const VARIABLE: u8 = 1;
 pub const JOIN: u8 = 2;
 
 // A node as a table holds it. `form` says what it is; the fields that its form does not use are ignored. The form is a
-// number, since the format of tables fixes its byte, and a byte that is no form is what a table can be refused for.
+// number, since the format of tables fixes its byte, and a byte that is no form is what a table can be refused for. So are
+// `left` and `right`, the operands of a join: the format has the numbers of two nodes of the table, and any number can
+// stand there.
 #[derive(Clone, Copy)]
 pub struct Node<K> {
     pub form: u8,

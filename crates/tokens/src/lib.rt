@@ -14,7 +14,7 @@ ghost use Rattle.tokens.specs.Next.{next, Ahead};
 use refusals::Refusal;
 use words::dictionary::LONGEST_WORD;
 
-// A block has exactly this many digits; that a variable or a name is no longer than a word may be is the words' matter.
+// A block has exactly this many digits. The most bytes of a variable or a name are those of a word.
 const BLOCK_DIGITS: usize = 32;
 
 // A word or a block borrows its bytes from the line; a block's are its digits, without the `#`.

@@ -9,7 +9,7 @@ ghost use Rattle.trials.specs.Laws.{single_lawful, low_bytes_lawful};
 use kinds::Kind;
 
 // The only constant of its kind.
-#[derive(Clone, Copy)]
+#[derive(Clone, Copy, Debug, PartialEq, Eq)]
 pub struct Single {}
 
 impl Kind for Single {
@@ -25,14 +25,13 @@ impl Kind for Single {
         self
     }
 
-    // there is no other
-    fn same(&self, _other: &Single) -> bool {
-        true
+    fn same(&self, other: &Single) -> bool {
+        self == other
     }
 }
 
 // A word of which only the low byte counts.
-#[derive(Clone, Copy)]
+#[derive(Clone, Copy, Debug, PartialEq, Eq)]
 pub struct LowByte {
     pub word: u64,
 }
