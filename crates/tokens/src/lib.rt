@@ -92,8 +92,8 @@ fn word(line: &[u8], start: usize, end: usize) -> Result<&[u8], Refusal>
     Ok(&line[start..end])
 }
 
-// The next token from `at` on, or none where only spaces are left. A reader calls this with the end of the token before,
-// so `at` is within the line.
+// The next token from `at` on, or none where only spaces are left. Asks that `at` is within the line, as the end of the
+// token before is, with which a reader calls this.
 pub fn next_token<'a>(line: &'a [u8], at: usize) -> Result<Option<Lexeme<'a>>, Refusal>
     requires { at ≤ length line.now }
     ensures splits { Next line.now at (erased result) }
