@@ -10,7 +10,7 @@ use Rattle.terms.specs.Limits.{InRange, most_variables}
 use Rattle.terms.specs.NormalForms.{SameNormal}
 use Rattle.terms.proofs.NormalForms.{normal_laws}
 use Rattle.tables.specs.Tables.{Input, Sound, Unsound}
-use Rattle.tables.specs.Calls.{Refused as TableRefused, bad_size, unsound, PastMemory, Worked}
+use Rattle.tables.specs.Calls.{Refused as TableRefused, bad_size, unsound}
 use Rattle.tables.proofs.Tables.{term_in}
 use Rattle.steps.specs.declared.Taken.{Taken}
 use Rattle.steps.specs.declared.Taken.TheVariants as taken
@@ -36,7 +36,7 @@ use Rattle.heads.specs.Heads.{Memory, Fit, new_head, Marking, counted_head, empt
 use Rattle.session.specs.declared.answer.Receipt.{Receipt}
 use Rattle.session.specs.Accounts.{Account, State, closed, opened, Use, Call, AnswerOf, use_of, post, mark, show, new, with_standing, with_marks, equation, Solution, Holds, Step, still_closed, post_full, post_clash, post_taken, mark_full, marked, shown, FormPosted, form_full, form_clash, form_taken}
 use Rattle.session.specs.Keeping.{slots_of, ledger_of, memory_of, size_of, standing_of, usable_of, Ready, Kept, Keeps, Answered, Judges, reply, posted_reply}
-use Rattle.session.specs.Frames.{SameMemory, PastInput}
+use Rattle.session.specs.Frames.{SameMemory}
 use Rattle.session.proofs.Recording.{records_more}
 
 -- a refusal that `?` passes on
@@ -130,11 +130,6 @@ posted_step k m a b i r sound (form_taken l θ s y) = post_taken sound l θ s y
 pub unsound_only : {C : Type 0} (n : ℕ) (i : Input C) (q : Refusal) → InRange n → TableRefused n i q → Unsound n i q
 unsound_only n i q range (bad_size b) = absurd (b range)
 unsound_only n i q range (unsound r u) = u
-
-module _ {C : Type 0} (s : Session C) (i : Input C) (before : List ℕ) where
-  pub worked_input : (h : Head) (after : List ℕ) → s.head ≡ Some h → Worked (PastMemory h.size i) (length i.table) before after
-      → Worked (PastInput s i) (length i.table) before after
-  worked_input h after e w = (λ p. w.0 ((s.fits h e).range, p.1, p.2), λ other. w.1 (λ p. other (ready_as s e, p.1, p.2)))
 
 -- what is past the front stays, and so does the length
 pub front_stays : {C : Type 0} (k : Operations C) (n : ℕ) (slots : List (Normal C)) → n ≤ length slots → (front : List (Normal C)) → length front ≡ length (take n slots)

@@ -82,12 +82,6 @@ still rest v u h m =
     (sym (toggled_other rest v u other) ∙ m, other)
 
 module _ {C : Type 0} (k : Operations C) (n : ℕ) (s : VarSet) (τ : Substitution C) (before : List (Normal C)) where
-  pub visiting_start : ((u : ℕ) → has s u ≡ false → images k before u ≡ τ u) → Visiting k n s s τ before before
-  visiting_start e = record {
-    members = λ u m. m;
-    row = record { done = λ u i. e u i.1; left = λ u i. refl };
-  }
-
   module _ (rest : VarSet) (after : List (Normal C)) (h : Visiting k n s rest τ before after) (v : ℕ) (there : has rest v ≡ true) where
     left_members : (u : ℕ) → has (symmetric_difference rest (singleton v)) u ≡ true → has s u ≡ true
     left_members u m = h.members u (still rest v u there m).0

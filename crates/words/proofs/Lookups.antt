@@ -1,27 +1,14 @@
 -- What is known of words by their number.
-use Rattle.std.proofs.Common.{◌≡◌, ℕ, suc, ◌+◌, ◌<◌, ◌≤◌, false, ◌⊎◌, List, [], ◌∷◌, ◌++◌, length, get_or, refl, ap, ◌∙◌, inl, inr, arith}
+use Rattle.std.proofs.Common.{◌≡◌, ℕ, ◌+◌, ◌<◌, ◌≤◌, ◌⊎◌, List, [], ◌∷◌, ◌++◌, length, get_or, refl, ap, ◌∙◌, inl, inr, arith}
 use Rattle.std.specs.Str.{bytes_eq}
 use Rattle.std.proofs.lemmas.Slice.Eq.{bytes_eq-Decides}
 use Rattle.std.proofs.lemmas.List.{length_push}
 use Rattle.std.proofs.lemmas.List.Folds.{prefix_len-append, position_or_len_push}
-use Rattle.std.proofs.lemmas.List.Sums.{prefix_len-le-length, position_or_len_is, fails_before_first, passes_at_first}
-use Rattle.std.proofs.lemmas.Bool.{cases_Bool, cases_lt, cond-true, cond-false, lt-ltb, le-ltb, eq-eqb, ne_eqb, both_ways}
+use Rattle.std.proofs.lemmas.List.Sums.{prefix_len-le-length, fails_before_first, passes_at_first}
+use Rattle.std.proofs.lemmas.Bool.{cases_lt, cond-true, cond-false, lt-ltb, le-ltb, eq-eqb, ne_eqb, both_ways}
 use Rattle.words.specs.Words.{index_of, with_word}
 
--- other words have other bytes
-other_word : (v w : List ℕ) → (v ≡ w → ⊥) → bytes_eq v w ≡ false
-other_word v w d = elim (cases_Bool (bytes_eq v w)) [ inl h ↦ absurd (d ((bytes_eq-Decides v w).0 h)) | inr h ↦ h ]
-
 -- the number of a word
-
-pub index_none : (w : List ℕ) → index_of [] w ≡ 0
-index_none w = refl
-
-pub index_here : (v : List ℕ) (ws : List (List ℕ)) (w : List ℕ) → v ≡ w → index_of (v ∷ ws) w ≡ 0
-index_here v ws w e = rw ((bytes_eq-Decides v w).1 e)
-
-pub index_later : (v : List ℕ) (ws : List (List ℕ)) (w : List ℕ) → (v ≡ w → ⊥) → index_of (v ∷ ws) w ≡ suc (index_of ws w)
-index_later v ws w d = rw (other_word v w d) (omega arith)
 
 pub index_most : (ws : List (List ℕ)) (w : List ℕ) → index_of ws w ≤ length ws
 index_most ws w = prefix_len-le-length _ ws
@@ -93,13 +80,3 @@ index_kept ws v w h =
       | inl k ↦ rw (with_known ws v k)
       | inr k ↦ rw (with_new ws v k) (index_append ws (v ∷ []) w h)
     ]
-
--- the first of the words that is w
-pub index_first : (ws : List (List ℕ)) (w : List ℕ) (i : ℕ) → ((k : ℕ) → k < i → get_or ws k [] ≡ w → ⊥) → i < length ws → get_or ws i [] ≡ w → index_of ws w ≡ i
-index_first ws w i before l e =
-    position_or_len_is (λ v. bytes_eq v w) ws i [] (omega arith) (λ k h. other_word _ w (before k h)) (λ h. (bytes_eq-Decides _ w).1 e)
-
--- none of the words is w
-pub index_absent : (ws : List (List ℕ)) (w : List ℕ) → ((k : ℕ) → k < length ws → get_or ws k [] ≡ w → ⊥) → index_of ws w ≡ length ws
-index_absent ws w none =
-    position_or_len_is (λ v. bytes_eq v w) ws (length ws) [] (omega arith) (λ k h. other_word _ w (none k h)) (λ h. absurd (omega arith))
