@@ -1,14 +1,13 @@
 // The plain head of an open session: its counts and its marks.
-ghost use Rattle.std.specs.Prelude.{◌≡◌};
-ghost use Rattle.heads.specs.Heads.{new_head, Marking, Unmarking};
+ghost use Rattle.heads.specs.Heads.{NewHead, Marking, Unmarking};
 
-use arrayvec::ArrayVec;
+use copy_vecs::CopyVec;
 use refusals::Refusal;
 
 // The most marks that are held.
 pub const MOST_MARKS: usize = 32;
 
-#[derive(Clone, Drop, Debug, PartialEq, Eq)]
+#[derive(Clone, Copy, Debug, PartialEq, Eq)]
 pub struct Head {
     // the number of variables
     pub size: usize,
@@ -17,19 +16,19 @@ pub struct Head {
     // the number of ledger entries that may be used
     pub usable: usize,
     // the marks, the latest last: at each the number of equations that stood then
-    pub marks: ArrayVec<usize, MOST_MARKS>,
+    pub marks: CopyVec<usize, MOST_MARKS>,
 }
 
 impl Head {
     // The head of a session just opened: no equation stands, and no mark is held.
     pub fn new(size: usize, usable: usize) -> Head
-        ensures { result ≡ new_head size usable }
+        ensures { NewHead size usable result }
     {
         Head {
             size,
             standing: 0,
             usable,
-            marks: ArrayVec::new(),
+            marks: CopyVec::new(),
         }
     }
 

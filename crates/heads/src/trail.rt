@@ -1,23 +1,23 @@
 // The trail of a session: the bindings that were made, one for each bound variable, in the order in which they were made.
-ghost use Rattle.std.specs.Prelude.{◌≡◌};
-ghost use Rattle.heads.specs.Heads.{empty_trail, Noting, Popping};
+ghost use Rattle.std.specs.Prelude.{◌≡◌, []};
+ghost use Rattle.heads.specs.Heads.{bindings_of, Noting, Popping};
 
-use arrayvec::ArrayVec;
+use copy_vecs::CopyVec;
 use steps::{Binding, Taken};
 use terms::sets::MOST_VARIABLES;
 
-#[derive(Clone, Drop, Debug, PartialEq, Eq)]
+#[derive(Clone, Copy, Debug, PartialEq, Eq)]
 pub struct Trail {
-    pub bindings: ArrayVec<Binding, MOST_VARIABLES>,
+    pub bindings: CopyVec<Binding, MOST_VARIABLES>,
 }
 
 impl Trail {
     // No binding.
     pub fn empty() -> Trail
-        ensures { result ≡ empty_trail }
+        ensures { bindings_of result ≡ [] }
     {
         Trail {
-            bindings: ArrayVec::new(),
+            bindings: CopyVec::new(),
         }
     }
 

@@ -40,9 +40,13 @@ impl fmt::Display for Message {
         match parts.next() {
             None => f.write_str("0"),
             Some(first) => {
-                write!(f, "{first}")?;
+                first.fmt(f)?;
+                // in one piece with what stands before, which is faster than two
                 for part in parts {
-                    write!(f, " ^ {part}")?;
+                    match part {
+                        Part::Variable(v) => write!(f, " ^ X{v}")?,
+                        Part::Name(letter) => write!(f, " ^ {letter}")?,
+                    }
                 }
                 Ok(())
             }

@@ -10,7 +10,7 @@ use Rattle.terms.specs.Limits.{InRange, most_variables}
 use Rattle.terms.specs.NormalForms.{SameNormal}
 use Rattle.terms.proofs.NormalForms.{normal_laws}
 use Rattle.tables.specs.Tables.{Input, Sound, Unsound}
-use Rattle.tables.specs.Calls.{Refused as TableRefused, bad_size, unsound}
+use Rattle.tables.specs.Calls.{Refused as TableRefused, PastMemory, Worked, bad_size, unsound}
 use Rattle.tables.proofs.Tables.{term_in}
 use Rattle.steps.specs.declared.Taken.{Taken}
 use Rattle.steps.specs.declared.Taken.TheVariants as taken
@@ -31,12 +31,13 @@ use Rattle.session.specs.declared.answer.Reply.TheVariants.{Image}
 use Rattle.heads.specs.declared.head.Head.{Head}
 use Rattle.heads.specs.declared.trail.Trail.{Trail}
 use Rattle.session.specs.declared.Session.{Session}
-use Rattle.heads.specs.Limits.{most_entries}
-use Rattle.heads.specs.Heads.{Memory, Fit, new_head, Marking, counted_head, empty_trail, latest_first, Noting}
+use Rattle.heads.specs.Limits.{most_entries, most_marks}
+use Rattle.heads.proofs.Few.{marks_few}
+use Rattle.heads.specs.Heads.{Memory, Fit, marks_of, SameCounts, NewHead, Marking, counted_head, bindings_of, latest_first, Noting}
 use Rattle.session.specs.declared.answer.Receipt.{Receipt}
 use Rattle.session.specs.Accounts.{Account, State, closed, opened, Use, Call, AnswerOf, use_of, post, mark, show, new, with_standing, with_marks, equation, Solution, Holds, Step, still_closed, post_full, post_clash, post_taken, mark_full, marked, shown, FormPosted, form_full, form_clash, form_taken}
 use Rattle.session.specs.Keeping.{slots_of, ledger_of, memory_of, size_of, standing_of, usable_of, Ready, Kept, Keeps, Answered, Judges, reply, posted_reply}
-use Rattle.session.specs.Frames.{SameMemory}
+use Rattle.session.specs.Frames.{SameMemory, Unchanged, OnlyNext, PastInput}
 use Rattle.session.proofs.Recording.{records_more}
 
 -- a refusal that `?` passes on
@@ -75,11 +76,29 @@ module _ {C : Type 0} (s : Session C) where
     pub usable_as : usable_of s ≡ h.usable
     usable_as = ap (λ o. option_map_or (λ (z : Head). z.usable) o 0) e
 
+    -- what a call on a table says of the working bytes
+    pub worked_input : (i : Input C) (count : ℕ) (before after : List ℕ) → Worked (PastMemory h.size i) count before after
+        → Worked (PastInput s i) count before after
+    worked_input i count before after w =
+        (λ past. w.0 ((s.fits h e).range, past.1, past.2), λ unpast. w.1 (λ past. unpast (ready_as, past.1, past.2)))
+
   pub not_ready : s.head ≡ None → Ready s → ⊥
   not_ready e ready = no_head e ready.1
 
+  -- of a closed session the working bytes stay as they are
+  pub worked_closed : (i : Input C) (count : ℕ) (before : List ℕ) → (Ready s → ⊥) → Worked (PastInput s i) count before before
+  worked_closed i count before shut = (λ past. absurd (shut past.0), λ unpast. refl)
+
+  -- what a call that changes nothing leaves
+
+  pub unchanged_self : Unchanged s s
+  unchanged_self = record { head = refl; trail = refl; slots = refl; ledger = refl }
+
   pub same_memory : SameMemory s s
   same_memory = record { slots = refl; ledger = refl; lengths = refl }
+
+  pub only_next_self : OnlyNext s s
+  only_next_self = record { others = λ i d x. refl; beyond = refl }
 
 -- what an account that is kept tells, and a call answered
 module _ {C : Type 0} (k : Operations C) (s : Session C) where
@@ -144,27 +163,28 @@ module _ {C : Type 0} (k : Operations C) (lawful : Lawful k) where
 
   -- the session s, just opened with the head h and the trail t, keeps the new account
   pub opening : (s : Session C) (n u : ℕ) (front : List (Normal C)) → length front ≡ length (take n (slots_of s)) → u ≡ min (length (ledger_of s)) most_entries → InRange n
-      → n ≤ length (slots_of s) → AllFree k (length (take n (slots_of s))) front → (h : Head) → h ≡ new_head n u → (t : Trail) → t ≡ empty_trail
+      → n ≤ length (slots_of s) → AllFree k (length (take n (slots_of s))) front → (h : Head) → NewHead n u h → (t : Trail) → bindings_of t ≡ []
       → (z : Head) × (Some h ≡ Some z) × Kept k z t (front ++ drop n (slots_of s)) (ledger_of s) (new (memory_of s) n)
   opening s n u front same usable range room free h head t none =
       let long : length (take n (slots_of s)) ≡ n = length-take-le n (slots_of s) room in
       let slots = front ++ drop n (slots_of s) in
       let all_free : AllFree k n (front ++ drop n (slots_of s)) = whole_free k n front (slots_of s) (same ∙ long) (rw long at free) in
       let start = row_starts k lawful n slots all_free in
-      let stays = front_stays k n (slots_of s) room front same in
-      let kept : Kept k (new_head n u) empty_trail slots (ledger_of s) (new (memory_of s) n)
-      = record {
-        fit = record { range = range; room = rw stays.1 room; standing = omega arith; entries = omega arith };
-        size = refl;
-        usable = sym usable;
-        count = refl;
-        marks = refl;
-        within = tt;
-        recorded = tt;
-        solved = start;
-        traced = traced_start k lawful n (ledger_of s) (images k slots) all_free start;
-      } in
-      (h, refl, rw (head, none) kept)
+      let stays = front_stays k n (slots_of s) room front same in (
+        h,
+        refl,
+        record {
+          fit = record { range = rw head.size range; room = rw (head.size, stays.1) room; standing = omega (arith, head.standing); entries = omega (arith, head.usable, usable) };
+          size = sym head.size;
+          usable = sym (head.usable ∙ usable);
+          count = sym head.standing;
+          marks = head.marks;
+          within = tt;
+          recorded = rw head.standing tt;
+          solved = rw head.size start;
+          traced = rw (head.size, head.standing, none) (traced_start k lawful n (ledger_of s) (images k slots) all_free start);
+        },
+      )
 
   module _ {h : Head} {t : Trail} {slots ledger : List (Normal C)} {a : Account C} (kept : Kept k h t slots ledger a) where
     abbrev n : ℕ
@@ -214,6 +234,24 @@ module _ {C : Type 0} (k : Operations C) (lawful : Lawful k) where
     pub showing : (v : ℕ) → v < n → Step k m (opened a) (use_of (show v)) (Ok (Image (images k slots v))) (opened a)
     showing v l = shown (rw kept.size l) (images k slots) (rw kept.size kept.solved) (same_self _)
 
+    -- as many marks as a head can hold, at most
+    pub kept_few : length a.marks ≤ most_marks
+    kept_few = omega (arith, ap length kept.marks, marks_few h)
+
+    -- a head of the same counts keeps the same, but for its marks
+    pub recounted : (h' : Head) → SameCounts h h' → Kept k h' t slots ledger (with_marks a (marks_of h'))
+    recounted h' same = record {
+      fit = record { range = rw same.size kept.fit.range; room = rw same.size kept.fit.room; standing = rw (same.standing, same.usable) kept.fit.standing; entries = rw same.usable kept.fit.entries };
+      size = kept.size ∙ sym same.size;
+      usable = kept.usable ∙ sym same.usable;
+      count = kept.count ∙ sym same.standing;
+      marks = refl;
+      within = rw same.size kept.within;
+      recorded = rw same.standing kept.recorded;
+      solved = rw same.size kept.solved;
+      traced = rw (same.size, same.standing) kept.traced;
+    }
+
     -- a mark, or as many as can be
     pub marking : (r : Result (Unit {0}) Refusal) (h' : Head) → Marking h r h'
         → (b : Account C) × Step k m (opened a) (use_of mark) (reply r) (opened b) × Kept k h' t slots ledger b
@@ -221,17 +259,7 @@ module _ {C : Type 0} (k : Operations C) (lawful : Lawful k) where
     marking (Ok x) h' e = (
       with_marks a (a.marks ++ (length a.standing ∷ [])),
       marked (rw kept.marks at e.0),
-      rw e.1 record {
-        fit = record { range = kept.fit.range; room = kept.fit.room; standing = kept.fit.standing; entries = kept.fit.entries };
-        size = kept.size;
-        usable = kept.usable;
-        count = kept.count;
-        marks = rw (kept.marks, kept.count) refl;
-        within = kept.within;
-        recorded = kept.recorded;
-        solved = kept.solved;
-        traced = kept.traced;
-      },
+      rw (kept.marks, ← kept.count) at (rw e.1.marks at (recounted h' e.1.counts)),
     )
 
     -- the equation of input that is sound for the head's size
@@ -315,11 +343,11 @@ module _ {C : Type 0} (k : Operations C) (lawful : Lawful k) where
         posting taken.Clashes d slots' long f u t' note = absurd (d refl)
         posting (taken.Binds p s) d slots' long f u t' note =
             let q = u rs row in
-            let free : length t.bindings.items < most_variables
-            = omega (arith, length-reverse t.bindings.items, counts_now k lawful n ledger _ h.standing (images k slots) kept.traced, q.2, q.3, kept.fit.range.1) in
-            rw (note.0 free) (counting _ slots' long f
-            (rw (reverse-append t.bindings.items (record { variable = p; entry = h.standing; changed = s } ∷ []))
-            (traced_binds k lawful n ledger _ h.standing (images k slots) kept.traced x p s (images k slots') q.0 q.1 (rw reads f) q.2)))
+            let free : length (bindings_of t) < most_variables
+            = omega (arith, length-reverse (bindings_of t), counts_now k lawful n ledger _ h.standing (images k slots) kept.traced, q.2, q.3, kept.fit.range.1) in
+            counting t' slots' long f
+            (rw (note.0 free, reverse-append (bindings_of t) (record { variable = p; entry = h.standing; changed = s } ∷ []))
+            (traced_binds k lawful n ledger _ h.standing (images k slots) kept.traced x p s (images k slots') q.0 q.1 (rw reads f) q.2))
 
     pub full : h.usable ≤ h.standing → length a.standing ≡ a.usable
     full l = let c = kept.count in let u = kept.usable in omega (arith, kept.fit.standing)

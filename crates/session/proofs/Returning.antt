@@ -1,5 +1,5 @@
 -- The return to a mark, and the bindings taken back on the way.
-use Rattle.std.proofs.Common.{◌≡◌, ℕ, ◌<◌, ◌≤◌, List, [], ◌∷◌, length, take, drop, Ok, sym, refl, ap, ◌∙◌, subst, arith}
+use Rattle.std.proofs.Common.{◌≡◌, ℕ, ◌<◌, ◌≤◌, List, [], ◌∷◌, length, take, drop, reverse, Ok, sym, refl, ap, ◌∙◌, subst, arith}
 use Rattle.std.proofs.lemmas.List.{take-take, take_all, length-take-le, reverse-append}
 use Rattle.kinds.specs.Kinds.{Operations, Lawful}
 use Rattle.terms.specs.declared.normal.Normal.{Normal}
@@ -14,11 +14,12 @@ use Rattle.session.specs.declared.answer.Reply.TheVariants.{Done}
 use Rattle.heads.specs.declared.head.Head.{Head}
 use Rattle.heads.specs.declared.trail.Trail.{Trail}
 use Rattle.session.specs.declared.Session.{Session}
-use Rattle.heads.specs.Heads.{Memory, with_mark, counted_head, extended, latest_first}
+use Rattle.heads.specs.Heads.{Memory, marks_of, SameCounts, WithMark, counted_head, bindings_of, Extended, latest_first}
 use Rattle.session.specs.Accounts.{Account, opened, use_of, return_to_mark, with_standing, with_marks, Step, returned}
 use Rattle.session.specs.Keeping.{slots_of, ledger_of, Kept}
 use Rattle.session.specs.Frames.{SameMemory}
 use Rattle.session.proofs.Recording.{records_take}
+use Rattle.session.proofs.Keeping.{recounted}
 
 -- the bindings of s that entries from m on made are being taken back, and t is what s became
 pub record Unwinding {C : Type 0} (k : Operations C) (n : ℕ) (s : Session C) (m : ℕ) (t : Session C) : Type 0 where
@@ -31,11 +32,11 @@ pub record Unwinding {C : Type 0} (k : Operations C) (n : ℕ) (s : Session C) (
 
 module _ {C : Type 0} (k : Operations C) (lawful : Lawful k) where
   -- one binding more is taken back
-  pub tracing_back : (n : ℕ) (ledger : List (Normal C)) (t t' : Trail) (b : Binding) (top m : ℕ) (slots slots' : List (Normal C)) → t ≡ extended t' b → m ≤ b.entry
+  pub tracing_back : (n : ℕ) (ledger : List (Normal C)) (t t' : Trail) (b : Binding) (top m : ℕ) (slots slots' : List (Normal C)) → Extended t' b t → m ≤ b.entry
       → (b.variable < n → EqualImages n (images k slots') (unbinding k b.variable b.changed (images k slots)))
       → Tracing k n ledger (latest_first t) top m (images k slots) → Tracing k n ledger (latest_first t') top m (images k slots')
   tracing_back n ledger t t' b top m slots slots' popped from back h =
-      let front : latest_first t ≡ b ∷ latest_first t' = ap latest_first popped ∙ reverse-append t'.bindings.items (b ∷ []) in
+      let front : latest_first t ≡ b ∷ latest_first t' = ap reverse popped ∙ reverse-append (bindings_of t') (b ∷ []) in
       tracing_pop k lawful n ledger b (latest_first t') top m (images k slots) (images k slots') from back
       (subst (λ ts. Tracing k n ledger ts top m (images k slots)) front h)
 
@@ -47,15 +48,18 @@ module _ {C : Type 0} (k : Operations C) (lawful : Lawful k) where
       rw ended.1 (tracing_end k lawful n (ledger_of s) (latest_first t.trail) top m (images k (slots_of t)) ended.0 (before.traces top h))
 
   -- an account, once the latest mark m is gone: h' is its head
-  module _ {h : Head} {trail : Trail} {slots ledger : List (Normal C)} {a : Account C} (kept : Kept k h trail slots ledger a) (h' : Head) (m : ℕ) (unmarked : h ≡ with_mark h' m) where
+  module _ {h : Head} {trail : Trail} {slots ledger : List (Normal C)} {a : Account C} (kept : Kept k h trail slots ledger a) (h' : Head) (m : ℕ) (unmarked : WithMark h' m h) where
     abbrev pub before : Account C
-    before = with_marks (with_standing a (take m a.standing)) h'.marks.items
+    before = with_marks (with_standing a (take m a.standing)) (marks_of h')
 
     pub return_step : (memory : Memory) → Step k memory (opened a) (use_of return_to_mark) (Ok Done) (opened before)
-    return_step memory = returned m h'.marks.items (sym kept.marks ∙ ap (λ (z : Head). z.marks.items) unmarked)
+    return_step memory = returned m (marks_of h') (sym kept.marks ∙ unmarked.marks)
 
-    kept' : Kept k (with_mark h' m) trail slots ledger a
-    kept' = rw unmarked at kept
+    same_counts : SameCounts h h'
+    same_counts = record { size = sym unmarked.counts.size; standing = sym unmarked.counts.standing; usable = sym unmarked.counts.usable }
+
+    kept' : Kept k h' trail slots ledger (with_marks a (marks_of h'))
+    kept' = recounted k lawful kept h' same_counts
 
     -- none was posted since
     pub keeps_all : h'.standing ≤ m → Kept k h' trail slots ledger before

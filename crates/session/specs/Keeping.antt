@@ -29,7 +29,7 @@ use Rattle.session.specs.declared.answer.Reply.TheVariants.{Done, Posted, Told, 
 use Rattle.heads.specs.declared.head.Head.{Head}
 use Rattle.heads.specs.declared.trail.Trail.{Trail}
 use Rattle.session.specs.declared.Session.{Session}
-use Rattle.heads.specs.Heads.{Memory, Fit, latest_first}
+use Rattle.heads.specs.Heads.{Memory, Fit, marks_of, latest_first}
 use Rattle.session.specs.Accounts.{Account, State, closed, opened, Call, AnswerOf, new, Unopened, Holds, Step, FormPosted}
 
 abbrev pub slots_of : {C : Type 0} → Session C → List (Normal C)
@@ -58,7 +58,7 @@ pub record Kept {C : Type 0} (k : Operations C) (h : Head) (t : Trail) (slots le
   pub size : a.size ≡ h.size
   pub usable : a.usable ≡ h.usable
   pub count : length a.standing ≡ h.standing
-  pub marks : h.marks.items ≡ a.marks
+  pub marks : marks_of h ≡ a.marks
   -- the variables of the equations are below the size
   pub within : Every (WithinEquation h.size) a.standing
   -- the ledger's first entries are the normal forms of the joined sides, up to sameness

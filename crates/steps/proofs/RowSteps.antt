@@ -70,6 +70,9 @@ module _ {C : Type 0} (k : Operations C) (n : ℕ) (τ : Substitution C) (before
       → Passing k n v τ before after → Passing k n (v + 1) τ before (set after v y)
   passing_put v after y low l e h = rewriting_put k n τ before after h v y low l e (λ u i o. omega (arith, o)) (λ u i. (omega arith, λ q. omega arith))
 
+  pub passing_skip : (v : ℕ) (after : List (Normal C)) → images k before v ≡ τ v → Passing k n v τ before after → Passing k n (v + 1) τ before after
+  passing_skip v after e h = rewriting_skip k n τ before after h v (omega arith) (λ i. e) (λ u i o. omega (arith, o)) (λ u i. omega arith)
+
 -- by the members of a set s, of which those in rest are still to come; members from n upward are passed over
 pub record Visiting {C : Type 0} (k : Operations C) (n : ℕ) (s rest : VarSet) (τ : Substitution C) (before after : List (Normal C)) : Type 0 where
   pub members : (u : ℕ) → has rest u ≡ true → has s u ≡ true
@@ -82,6 +85,12 @@ still rest v u h m =
     (sym (toggled_other rest v u other) ∙ m, other)
 
 module _ {C : Type 0} (k : Operations C) (n : ℕ) (s : VarSet) (τ : Substitution C) (before : List (Normal C)) where
+  pub visiting_start : ((u : ℕ) → has s u ≡ false → images k before u ≡ τ u) → Visiting k n s s τ before before
+  visiting_start e = record {
+    members = λ u m. m;
+    row = record { done = λ u i. e u i.1; left = λ u i. refl };
+  }
+
   module _ (rest : VarSet) (after : List (Normal C)) (h : Visiting k n s rest τ before after) (v : ℕ) (there : has rest v ≡ true) where
     left_members : (u : ℕ) → has (symmetric_difference rest (singleton v)) u ≡ true → has s u ≡ true
     left_members u m = h.members u (still rest v u there m).0

@@ -1,9 +1,10 @@
 -- Where a run of bytes ends: at the place that is computed, and at no other.
-use Rattle.std.proofs.Common.{◌≡◌, ℕ, ◌+◌, ◌-◌, ◌≤◌, Bool, true, List, length, get_or, drop, subst, arith}
+use Rattle.std.proofs.Common.{◌≡◌, ℕ, ◌+◌, ◌-◌, ◌<◌, ◌≤◌, Bool, true, false, inl, inr, List, length, get_or, drop, subst, arith}
 use Rattle.std.specs.List.{prefix_len}
 use Rattle.std.proofs.lemmas.List.{get_or-drop, length-drop}
 use Rattle.std.proofs.lemmas.List.Sums.{prefix_len-le-length, prefix_len_passes, prefix_len_stops, prefix_len_is}
-use Rattle.tokens.specs.Tokens.{Run}
+use Rattle.std.proofs.lemmas.Bool.{cases_lt}
+use Rattle.tokens.specs.Tokens.{Stretch, Run}
 use Rattle.tokens.specs.Next.{run_end}
 
 module _ (p : ℕ → Bool) (line : List ℕ) where
@@ -34,3 +35,23 @@ module _ (p : ℕ → Bool) (line : List ℕ) where
       (λ k h. rw get_or-drop (x.passes (a + k) (omega arith) (omega arith)))
       (λ h. rw (get_or-drop, place) (r.longest (omega (arith, length-drop a line)))) in
       omega arith
+
+module _ {p : ℕ → Bool} {line : List ℕ} where
+  pub stretch_none : {a : ℕ} → a ≤ length line → Stretch p line a a
+  stretch_none w = record { begins = omega arith; within = w; passes = λ i h k. absurd (omega arith) }
+
+  -- one byte more at the end
+  pub stretch_more : {a e : ℕ} → Stretch p line a e → e < length line → p (get_or line e 0) ≡ true → Stretch p line a (e + 1)
+  stretch_more {a} {e} x w h =
+      record {
+        begins = omega (arith, x.begins);
+        within = omega arith;
+        passes = λ i b k.
+            elim (cases_lt i e) [
+              | inl l ↦ x.passes i b l
+              | inr g ↦ let s : e ≡ i = omega arith in subst (λ j. p (get_or line j 0) ≡ true) s h
+            ];
+      }
+
+  pub run_none : {a : ℕ} → a ≤ length line → (a < length line → p (get_or line a 0) ≡ false) → Run p line a a
+  run_none w n = record { stretch = stretch_none w; longest = n }

@@ -1,1 +1,2 @@
 pub mod SetFacts
+pub mod Digits

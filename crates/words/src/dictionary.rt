@@ -3,14 +3,14 @@ ghost use Rattle.std.specs.Prelude.{◌≡◌, ◌<◌, ◌≤◌, ◌↔◌, []
 ghost use Rattle.words.specs.Limits.{longest_word};
 ghost use Rattle.words.specs.Words.{index_of, Pushed};
 
-use arrayvec::ArrayVec;
+use copy_vecs::CopyVec;
 use std::marker::Model;
 
 // The most bytes of a word.
 pub const LONGEST_WORD: usize = 8;
 
 // A word of at most eight bytes.
-pub type Word = ArrayVec<u8, LONGEST_WORD>;
+pub type Word = CopyVec<u8, LONGEST_WORD>;
 
 // Why a word was not entered: there is no place for one more.
 #[derive(Clone, Copy, Debug, PartialEq, Eq)]
@@ -19,7 +19,7 @@ pub struct Full;
 // At most `N` words, numbered from 0. Clauses see the list of their bytes, in the order of the numbers.
 #[derive(Drop)]
 pub struct Dictionary<const N: usize> {
-    words: ArrayVec<Word, N>,
+    words: CopyVec<Word, N>,
 }
 
 impl<const N: usize> Model for Dictionary<N> {
@@ -36,7 +36,7 @@ impl<const N: usize> Dictionary<N> {
         ensures { result ≡ [] }
     {
         Dictionary {
-            words: ArrayVec::new(),
+            words: CopyVec::new(),
         }
     }
 
@@ -61,8 +61,10 @@ impl<const N: usize> Dictionary<N> {
         ensures within { IfSome result (λ i. i < length self.now) }
         ensures unknown { IfNone result (index_of self.now word.now ≡ length self.now) }
     {
-        // Most words of one length differ at their end, so that is looked at first.
-        self.words.iter().position(|known| known.last() == word.last() && known.as_slice() == word)
+        // Most words differ in length or at their end, so these are looked at first.
+        self.words.iter().position(|known| known.len() == word.len()
+            && known.last() == word.last()
+            && known.as_slice() == word)
     }
 
     // The word of a number, where there is one.

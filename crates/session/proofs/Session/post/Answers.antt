@@ -3,7 +3,7 @@ use Rattle.tables.specs.Tables.{Input}
 use Rattle.tables.specs.Calls.{input_of}
 use Rattle.session.specs.Accounts.{use_of, post, equation, post_unsound}
 use Rattle.session.specs.Keeping.{posted_reply, memory_of}
-use Rattle.session.proofs.Keeping.{passed_on, answered_closed, answered_open, unsound_only, sound_here, within_here, posted_step}
+use Rattle.session.proofs.Keeping.{passed_on, worked_input, answered_closed, answered_open, unsound_only, sound_here, within_here, posted_step}
 use Rattle.session.proofs.Session.post.Goals as goal
 
 pub returns-in_err-opened-clause-told : goal.returns-in_err-opened-clause-told
@@ -32,3 +32,13 @@ returns-clause-told g c =
     answered_open k s c.in_ok-opened.ensures _ (use_of (post i)) (posted_reply c.post_form.result) (λ a kept.
     let q = c.post_form.ensures.told a (equation k i) (c.in_ok-opened.field-0.now, c.in_ok-opened.ensures, kept) (within_here k l kept i ok.1) ok.2 in
     (q.0, posted_step k (memory_of s) a q.0 i c.post_form.result (sound_here k l kept i ok.1) q.1, q.2))
+
+pub returns-in_err-form-clause-work : goal.returns-in_err-form-clause-work
+returns-in_err-form-clause-work g c =
+    worked_input c.args.self.now c.in_ok-opened.ensures (input_of c.args.sides (length c.args.work.now)) (length c.args.sides.table.now) c.args.work.now c.joined_form.new.work
+    c.joined_form.ensures.work
+
+pub returns-clause-work : goal.returns-clause-work
+returns-clause-work g c =
+    worked_input c.args.self.now c.in_ok-opened.ensures (input_of c.args.sides (length c.args.work.now)) (length c.args.sides.table.now) c.args.work.now c.joined_form.new.work
+    c.joined_form.ensures.work

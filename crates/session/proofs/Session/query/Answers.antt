@@ -14,7 +14,7 @@ use Rattle.session.specs.Keeping.{Judges, Answered, told_reply}
 use Rattle.tables.specs.Calls.{input_of}
 use Rattle.session.specs.declared.answer.Reply.TheVariants.{Told}
 use Rattle.session.specs.Accounts.{use_of, query, equation, query_unsound, query_told}
-use Rattle.session.proofs.Keeping.{passed_on, answered_closed, answered_same, unsound_only, sound_here, within_here, no_head}
+use Rattle.session.proofs.Keeping.{passed_on, worked_input, answered_closed, answered_same, unsound_only, sound_here, within_here, no_head}
 use Rattle.session.proofs.Session.query.Goals as goal
 
 pub returns-in_err-opened-clause-told : goal.returns-in_err-opened-clause-told
@@ -46,3 +46,13 @@ returns-clause-told g c =
     let ok = c.in_ok-form.ensures.result in
     telling g.K.Kind.ops g.met.K.Kind.lawful c.args.self.now c.in_ok-opened.field-0.now c.in_ok-opened.ensures (input_of c.args.sides (length c.args.work.now)) c.in_ok-form.form ok.1 ok.2
     c.query_form.result c.query_form.ensures
+
+pub returns-in_err-form-clause-work : goal.returns-in_err-form-clause-work
+returns-in_err-form-clause-work g c =
+    worked_input c.args.self.now c.in_ok-opened.ensures (input_of c.args.sides (length c.args.work.now)) (length c.args.sides.table.now) c.args.work.now c.joined_form.new.work
+    c.joined_form.ensures.work
+
+pub returns-clause-work : goal.returns-clause-work
+returns-clause-work g c =
+    worked_input c.args.self.now c.in_ok-opened.ensures (input_of c.args.sides (length c.args.work.now)) (length c.args.sides.table.now) c.args.work.now c.joined_form.new.work
+    c.joined_form.ensures.work

@@ -1,6 +1,5 @@
 use Rattle.std.proofs.Common.{◌≡◌, ◌∙◌, Ok, Err, length, sym, refl, ap}
 use Rattle.refusals.specs.declared.Refusal.TheVariants.{NoMark}
-use Rattle.heads.specs.declared.head.Head.{Head}
 use Rattle.heads.specs.Heads.{Memory, counted_head}
 use Rattle.session.specs.declared.answer.Reply.TheVariants.{Done}
 use Rattle.session.specs.Accounts.{use_of, return_to_mark, no_mark}
@@ -30,7 +29,7 @@ returns-then-mark-head-clause-told g c =
     let done = c.unwind.ensures in
     let unmarked = c.in_ok-mark.ensures in
     let long : length c.unwind.new.self.slots.now ≡ length c.args.self.now.slots.now = ap (λ (z : Memory). z.slots) done.memory.lengths in
-    let sized : c.in-Some.head.size ≡ c.unmark.new.self.size = ap (λ (z : Head). z.size) unmarked in
+    let sized : c.in-Some.head.size ≡ c.unmark.new.self.size = unmarked.counts.size in
     answered_open k s c.in-Some.is _ (use_of return_to_mark) (Ok Done) (λ a kept. (
       before k l kept h m unmarked,
       return_step k l kept h m unmarked (memory_of s),
