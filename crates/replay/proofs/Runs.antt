@@ -1,5 +1,5 @@
 -- Runs of requests on a session, one after another.
-use Rattle.std.proofs.Common.{◌≡◌, ℕ, zero, suc, ◌+◌, ◌<◌, List, [], ◌∷◌, ◌++◌, length, get_or, take, drop, set, sym, refl, ap, ◌∙◌, subst, add-one, arith}
+use Rattle.std.proofs.Common.{◌≡◌, ℕ, zero, suc, ◌+◌, ◌<◌, ◌≤◌, List, [], ◌∷◌, ◌++◌, length, get_or, take, drop, set, sym, refl, ap, ◌∙◌, subst, add-one, arith}
 use Rattle.std.proofs.lemmas.List.{take_more, get_or-map}
 use lib.Seq.{map-set, map-set_same}
 use lib.ListN.{length-map}
@@ -11,7 +11,9 @@ use Rattle.heads.specs.Heads.{Memory}
 use Rattle.session.specs.declared.Session.{Session}
 use Rattle.session.specs.Accounts.{Account, AnswerOf, State, closed, opened, new, Call, open_with, use_of, Event, Step, Run, start, more, bad_size, few_slots, open_anew, still_closed, post_unsound, post_full, post_clash, post_taken, query_unsound, query_told, mark_full, marked, no_mark, returned, no_variable, shown}
 use Rattle.session.specs.Keeping.{Ready, Keeps, Answered, slots_of, ledger_of, memory_of, size_of, usable_of}
-use Rattle.session.specs.Frames.{SameMemory}
+use Rattle.tables.specs.Tables.{Input, Sized}
+use Rattle.tables.specs.Calls.{Worked}
+use Rattle.session.specs.Frames.{SameMemory, PastInput}
 use Rattle.session.proofs.Keeping.{kept_ready, kept_size, kept_usable, kept_solved, same_memory, showing}
 use Rattle.replay.specs.declared.Ask.{Ask}
 use Rattle.replay.specs.declared.Request.{Request}
@@ -40,6 +42,11 @@ stays k m (no_mark {a} e) = (a, refl, refl, refl)
 stays k m (returned c ms e) = (_, refl, refl, refl)
 stays k m (no_variable {a} l) = (a, refl, refl, refl)
 stays k m (shown {a} l σ s e) = (a, refl, refl, refl)
+
+-- the working bytes of an open session go by the table alone
+pub worked_open : {C : Type 0} (s : Session C) (i : Input C) (before after : List ℕ) → Ready s → Worked (PastInput s i) (length i.table) before after
+    → Worked (Sized i.table × (length i.table ≤ i.room)) (length i.table) before after
+worked_open s i before after ready w = (λ p. w.0 (ready, p.0, p.1), λ other. w.1 (λ p. other (p.1, p.2)))
 
 module _ {C : Type 0} (room : ℕ) where
   abbrev event : Ask C → AnswerOf C → Event C

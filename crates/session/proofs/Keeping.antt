@@ -137,6 +137,11 @@ module _ {C : Type 0} (k : Operations C) (s : Session C) where
         → ((a : Account C) → KeptBy a h → Step k (memory_of s) (opened a) call answer (opened a)) → Answered k s call answer s
     answered_same call answer f = answered_open (Keeps k s) call answer (λ a kept. (a, f a kept, (h, e, kept)))
 
+-- as many marks as a head can hold, at most
+pub kept_few : {C : Type 0} (k : Operations C) (h : Head) (t : Trail) (slots ledger : List (Normal C)) (a : Account C) → Kept k h t slots ledger a
+    → length a.marks ≤ most_marks
+kept_few k h t slots ledger a kept = omega (arith, ap length kept.marks, marks_few h)
+
 -- what posting gives is a step, once its input is sound
 pub posted_step : {C : Type 0} (k : Operations C) (m : Memory) (a b : Account C) (i : Input C) (r : Result Receipt Refusal) → Sound a.size i
     → FormPosted k a (equation k i) r b → Step k m (opened a) (use_of (post i)) (posted_reply r) (opened b)
@@ -233,10 +238,6 @@ module _ {C : Type 0} (k : Operations C) (lawful : Lawful k) where
 
     pub showing : (v : ℕ) → v < n → Step k m (opened a) (use_of (show v)) (Ok (Image (images k slots v))) (opened a)
     showing v l = shown (rw kept.size l) (images k slots) (rw kept.size kept.solved) (same_self _)
-
-    -- as many marks as a head can hold, at most
-    pub kept_few : length a.marks ≤ most_marks
-    kept_few = omega (arith, ap length kept.marks, marks_few h)
 
     -- a head of the same counts keeps the same, but for its marks
     pub recounted : (h' : Head) → SameCounts h h' → Kept k h' t slots ledger (with_marks a (marks_of h'))

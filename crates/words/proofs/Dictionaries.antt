@@ -35,6 +35,7 @@ module _ {M N : ℕ} (ws : CopyVec (CopyVec ℕ M) N) (w : List ℕ) where
         | inr h ↦ subst (FoundAt (texts ws) w) (sym (e ∙ cond-false _ _ _ (le-ltb _ _ h))) (record { first = tt; within = tt; unknown = omega (arith, index_of-texts, all, prefix_len-le-length (λ v. not (p v)) (items ws)) })
       ]
 
+module _ {M N : ℕ} (ws : CopyVec (CopyVec ℕ M) N) where
   -- how many words there are at most, and how long they are
 
   pub length_texts : length (texts ws) ≡ length (items ws)
